@@ -3,12 +3,14 @@ use Prim.Native.Nat.{ℕ, _+_, _*_, _<_, _≤_}
 use mathlib.Core.List.{List, [], _∷_}
 use mathlib.Core.Path.{_≡_}
 use lib.ListN.{length, take}
+use Rattle.std.specs.Results.{Cases}
+use Rattle.std.specs.declared.result.Result.{Result}
 use Rattle.mesh.specs.Mesh.{Mesh, Counted}
 use Rattle.mesh.specs.declared.fault.Fault.{Fault}
 use Rattle.mesh.specs.declared.fault.Fault.the-variants.{BadLine, TooShort}
 use Rattle.lines.specs.declared.reader.Counts.{Counts}
 use Rattle.lines.specs.Lines.{Line, No-line, Begins}
-use Rattle.lines.specs.Reading.{Room, Reading, accepted, refused, reading}
+use Rattle.lines.specs.Reading.{Room, room, Reading, accepted, refused, reading, answer, Holds}
 use Rattle.lines.specs.Text.{mesh-text, Writable}
 
 -- s is the text of m
@@ -60,3 +62,9 @@ mesh-in n cs fs ms ss = record {
   marks = take (2 * n .quads) ms;
   starts = take (n .points) ss;
 }
+
+-- A text and its tables are each other's image: a text that is accepted is the text of what the tables then hold, a refusal says why none is,
+-- and the text of any mesh that the tables have room for is accepted with that mesh's words.
+pub record Images (s cs fs ms ss cs′ fs′ ms′ ss′ : List ℕ) (a : Result Counts Fault) : Type 0 where
+  pub is-text : Cases a (λ n. Text-of (mesh-in n cs′ fs′ ms′ ss′) s) (Refuses s (room cs fs ms ss))
+  pub takes-text : (m : Mesh) → Text-of m s → Has-room (m .quads) (m .points) (room cs fs ms ss) → (a ≡ answer (accepted m)) × Holds (accepted m) cs fs ms ss cs′ fs′ ms′ ss′

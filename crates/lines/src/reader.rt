@@ -9,6 +9,7 @@ ghost use Rattle.std.specs.declared.option.Option.the-variants.{Some, None};
 ghost use Rattle.std.specs.shelf.Lists.{joined};
 ghost use Rattle.mesh.specs.Mesh.{Mesh};
 ghost use Rattle.mesh.specs.declared.fault.Fault.the-variants.{BadLine};
+ghost use Rattle.lines.specs.Laws.{Images, Reading-is-exact};
 ghost use Rattle.lines.specs.Reading.{line, lines, good, bad, accepted, refused, body-read, reading, room, roomy, answer, heading, laid, Holds};
 use crate::frame::read_line;
 use mesh::fault::Fault;
@@ -182,6 +183,7 @@ pub fn read(
 ) -> Result<Counts, Fault>
     ensures answer { λ r. ⌜ r ≡ answer (reading (now (text .entry)) (room (now (corners .entry)) (now (friends .entry)) (now (marks .entry)) (now (starts .entry)))) ⌝ }
     ensures tables { λ r. ⌜ Holds (reading (now (text .entry)) (room (now (corners .entry)) (now (friends .entry)) (now (marks .entry)) (now (starts .entry)))) (now (corners .entry)) (now (friends .entry)) (now (marks .entry)) (now (starts .entry)) (now (corners .exit)) (now (friends .exit)) (now (marks .exit)) (now (starts .exit)) ⌝ }
+    ensures images { λ r. ⌜ Images (now (text .entry)) (now (corners .entry)) (now (friends .entry)) (now (marks .entry)) (now (starts .entry)) (now (corners .exit)) (now (friends .exit)) (now (marks .exit)) (now (starts .exit)) r ⌝ }
 {
     let Some((counts, body)) = head(text) else {
         return Err(Fault::BadLine(0));
@@ -192,4 +194,11 @@ pub fn read(
     judge(body, counts)?;
     fill(body, counts, corners, friends, marks, starts);
     Ok(counts)
+}
+
+// Reading gives an outcome exactly where the text is as that outcome tells.
+pub fn reading_is_exact() -> u8
+    ensures { λ _. ⌜ Reading-is-exact ⌝ }
+{
+    0
 }
