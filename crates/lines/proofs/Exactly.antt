@@ -57,6 +57,7 @@ module _ (a b k : ℕ) where
     where
       split : (n i : ℕ) → i < n → (j : ℕ) × (n ≡ i + suc j)
       split n i h = (n - (i + 1), omega arith)
+
       go : (n : ℕ) → (j : ℕ) × (n ≡ length rows + suc j) → lines a b k n s ≡ bad (length rows)
       go n p =
           ap (λ (m : ℕ). lines a b k m s) (p .1)

@@ -2,3 +2,7 @@
 mod digits;
 mod frame;
 pub mod reader;
+
+pub use reader::Counts;
+pub use reader::read;
+pub use reader::read_counts;

@@ -113,3 +113,43 @@ impl Fault {
         }
     }
 }
+
+impl Fault {
+    // The cause in plain words.
+    fn meaning(&self) -> &'static str {
+        match self {
+            Fault::Shape =>
+                "the corner table is no multiple of 4, or the friend or mark table is not half of it",
+            Fault::QuadCount => "there are fewer than 2 quads, or more than 1048576",
+            Fault::PointCount => "there are fewer points than quads, or more than twice as many",
+            Fault::NoSuchPoint(_) => "this corner names no point",
+            Fault::NoSuchEdge(_) => "the friend of this off-edge is no edge",
+            Fault::NoMark(_) => "the mark word of this off-edge stands for no mark",
+            Fault::NotOpposed(_) => "the friend of this off-edge does not run the other way",
+            Fault::NotAtPoint(_) => "the start of this point is no corner of it",
+            Fault::NotBack(_) => "the walk at this point is not back in 2 to 64 steps",
+            Fault::CornersUnmet => "the walks together miss a corner",
+            Fault::LevelInWork => "a level is in work",
+            Fault::NoStandingLevel => "there is no standing level",
+            Fault::LevelTooLarge => "the next level would have more than 1048576 quads",
+            Fault::TooFewWords => "the bench has too few working words",
+            Fault::NoLevelInWork => "there is no level in work",
+            Fault::NoSuchNumber(_) => "this number is not below its count",
+            Fault::OtherSlip => "the slip bears another mark number",
+            Fault::TaskNotRun(_) => "this task has not run",
+            Fault::WrongLength => "a table of values has the wrong length",
+            Fault::NoValue(_) => "this component or row makes no value",
+            Fault::BadLine(_) => "this line, counted from 0, is malformed, missing or surplus",
+            Fault::TooShort => "a buffer is too short",
+        }
+    }
+}
+
+pub impl fmt::Display for Fault as FaultDisplay {
+    fn fmt<W: fmt::Write>(&self, f: &mut fmt::Formatter<W>) -> fmt::Result {
+        let number = self.number();
+        let place = self.place();
+        let meaning = self.meaning();
+        write!(f, "refusal {number}, place {place}: {meaning}")
+    }
+}
