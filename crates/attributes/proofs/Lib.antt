@@ -1,0 +1,4 @@
+mod Limits
+mod Unions
+mod Tested
+mod Pairs
