@@ -5,15 +5,15 @@ use mathlib.Core.Bool.{Bool, true, false, not}
 use mathlib.Core.Logic.{_⊎_, inl, inr}
 use native.Mathlib.Omega.{arith}
 use lib.Dec.{leb, ltb, eqb}
-use Rattle.std.proofs.shelf.Tests.{cases-lt, cases-eq, cases-order, and-parts, and-from, or-cases, or-left, or-right, eqb-true, eq-eqb, leb-true, le-leb, leb-false, ltb-true, lt-ltb, le-ltb, ltb-false, cond-true, cond-false, not-true, not-false, both-ways}
-use Rattle.mesh.specs.Causes.{Cause, wrong-shape, too-few-quads, too-many-quads, too-few-points, too-many-points, no-such-point, no-such-edge, no-mark, not-opposed, start-past-end, start-elsewhere, not-back, unmet, First-back, First-cause, once, each, judge, shape-ok, quads-ok, points-ok, corner-ok, friend-ok, mark-ok, back-ok, start-ok, walk-ok, all-met}
+use Rattle.std.proofs.shelf.Tests.{cases-lt, cases-eq, cases-order, and-parts, and-from, or-cases, or-left, or-right, eqb-true, eq-eqb, leb-true, le-leb, leb-false, ltb-true, lt-ltb, le-ltb, ltb-false, cond-true, cond-false, not-true, not-false, not-from-true, not-from-false, both-ways}
+use Rattle.mesh.specs.Causes.{Cause, wrong-shape, too-few-quads, too-many-quads, too-few-points, too-many-points, no-such-point, no-such-edge, no-mark, not-opposed, start-past-end, start-elsewhere, not-back, unmet, First-back, First-cause, once, each, judge, shape-ok, quads-ok, points-ok, corner-ok, friend-ok, mark-ok, back-ok, start-ok, walk-ok, all-met, mesh-of}
 use Rattle.mesh.specs.Count.{least, total}
 use Rattle.mesh.specs.Marks.{Mark-word}
 use Rattle.mesh.specs.Mesh.{Mesh, Counted, Sound, Lawful, Meets, Runs-back, point, friend, mark, start, begins, ends, walk, shortest, longest, valence, fewest-quads, most-quads}
 use Rattle.mesh.specs.Refusals.{Verdict, fine, declined}
-use Rattle.refinement.specs.Laws.{Causes-tried-in-order, Judges}
+use Rattle.refinement.specs.Laws.{Causes-tried-in-order, Judges, Tables-have-shape}
 use Rattle.refinement.proofs.Corners.{walks-meet-at-most, corners-met-once, unmet-corner}
-use Rattle.refinement.proofs.Totals.{least-fails, least-passes}
+use Rattle.refinement.proofs.Totals.{least-is, least-none, least-fails, least-passes}
 use Rattle.refinement.proofs.Walks.{valence-is, walk-back, walk-not-back}
 
 declined-not-fine : (k p : ℕ) → declined k p ≡ fine → ⊥
@@ -117,10 +117,10 @@ module _ (m : Mesh) where
           no-lower-cause = clear;
         }))
         | inr l ↦ subst Right (sym (cond-false _ (declined k p) rest (le-ltb p n l))) (more (clear-more k clear
-          (λ i c. elim (cases-lt i n) [
-            | inl h ↦ against i h (not-false (ok i) (least-fails (λ i. not (ok i)) n i (omega arith))) c
-            | inr h ↦ past i h c
-          ])))
+            (λ i c. elim (cases-lt i n) [
+              | inl h ↦ against i h (not-false (ok i) (least-fails (λ i. not (ok i)) n i (omega arith))) c
+              | inr h ↦ past i h c
+            ])))
       ]
 
   -- each test against its cause
@@ -329,3 +329,40 @@ causes-tried-in-order m k p = record { only-first = right m .first k p; the-firs
 
 pub judges : Judges
 judges m = record { only-lawful = λ e. lawful m (right m .none e); all-lawful = λ w. judged-fine m w (judge m) (right m) }
+
+-- the shape of four tables
+pub tables-have-shape : Tables-have-shape
+unfolding mesh-of
+tables-have-shape cs fs ms ss = record {
+  counted-fits = λ c.
+      let a = c .corner-count in
+      let b = c .friend-count in
+      let d = c .mark-count in
+      record { fours = omega arith; half-friends = omega arith; half-marks = omega arith };
+  fitting-counted = λ f.
+      let a = f .fours in
+      let b = f .half-friends in
+      let d = f .half-marks in
+      record { corner-count = omega arith; friend-count = omega arith; mark-count = omega arith; start-count = refl };
+}
+
+-- the verdict of code that goes through the tests: on to the next where all pass, and the first place that fails
+pub once-on : (k : ℕ) (ok : Bool) (rest : Verdict) → ok ≡ true → once k ok rest ≡ rest
+unfolding once
+once-on k ok rest t = cond-true ok rest (declined k 0) t
+
+pub once-fault : (k : ℕ) (ok : Bool) (rest : Verdict) → ok ≡ false → once k ok rest ≡ declined k 0
+unfolding once
+once-fault k ok rest f = cond-false ok rest (declined k 0) f
+
+pub each-on : (k : ℕ) (ok : ℕ → Bool) (n : ℕ) (rest : Verdict) → ((i : ℕ) → i < n → ok i ≡ true) → each k ok n rest ≡ rest
+unfolding each
+each-on k ok n rest t =
+    let e = least-none (λ i. not (ok i)) n (λ i h. not-from-true (ok i) (t i h)) in
+    cond-false _ _ rest (le-ltb (least (λ i. not (ok i)) n) n (omega arith))
+
+pub each-fault : (k : ℕ) (ok : ℕ → Bool) (n : ℕ) (rest : Verdict) (p : ℕ) → p < n → ok p ≡ false → ((i : ℕ) → i < p → ok i ≡ true) → each k ok n rest ≡ declined k p
+unfolding each
+each-fault k ok n rest p l f t =
+    let e = least-is (λ i. not (ok i)) n p l (not-from-false (ok p) f) (λ i h. not-from-true (ok i) (t i h)) in
+    cond-true _ (declined k (least (λ i. not (ok i)) n)) rest (lt-ltb (least (λ i. not (ok i)) n) n (omega arith)) ∙ ap (declined k) e

@@ -5,7 +5,7 @@ use mathlib.Core.Logic.{inl, inr}
 use native.Mathlib.Omega.{arith}
 use lib.Dec.{eqb}
 use Rattle.mesh.specs.Count.{least, total}
-use Rattle.refinement.specs.Laws.{Step-keeps, Corners-met-once, Edges-serve-once}
+use Rattle.refinement.specs.Laws.{Step-keeps, Corners-met-once, Edges-serve-once, Friends-pair}
 use Rattle.mesh.specs.Mesh.{Mesh, Sound, Lawful, Meets, point, friend, off-edge, begins, step, walk, valence}
 use Rattle.refinement.proofs.Totals.{total-same, total-ones, total-le, total-full, total-some, total-single, total-swap, total-term, total-short, hit, hit-same, hit-met, hit-le, total-hits, least-is}
 use Rattle.refinement.proofs.Steps.{off-edge-begins, off-edge-below, step-below, step-point, step-side, step-odd}
@@ -64,13 +64,16 @@ module _ (m : Mesh) (w : Sound m) where
   unfolding met meets
   unmet-corner few =
       let e = met-in-all in
-      let r = total-short met (4 * m .quads) (omega arith) in
-      (r .0, r .1, λ v i k.
-      let a = total-term (λ v. meets v (r .0)) (m .points) v (k .a-point) in
-      let b = total-term (λ i. hit (walk m v i) (r .0)) (valence m v) i (k .not-back) in
-      let h = hit-same (walk m v i) (r .0) (k .there) in
-      let z = r .2 in
-      omega arith)
+      let r = total-short met (4 * m .quads) (omega arith) in (
+        r .0,
+        r .1,
+        λ v i k.
+            let a = total-term (λ v. meets v (r .0)) (m .points) v (k .a-point) in
+            let b = total-term (λ i. hit (walk m v i) (r .0)) (valence m v) i (k .not-back) in
+            let h = hit-same (walk m v i) (r .0) (k .there) in
+            let z = r .2 in
+            omega arith,
+      )
 
 module _ (m : Mesh) (w : Lawful m) where
   -- where corner c is met
@@ -201,3 +204,6 @@ edges-serve-once m w g h =
       is-friend = friend-served m w g h;
       only = λ o k e. sym (served-friend m w o k) ∙ ap (served m w) e;
     }
+
+pub friends-pair : Friends-pair
+friends-pair m w = record { has-friend = w .sound .friends-are-edges; runs-back = w .sound .friends-run-back; serves-once = friend-once m w }

@@ -8,8 +8,10 @@ pub mod Causes
 pub mod Puts
 pub mod Words
 pub mod Order
+pub mod Made
 pub mod Level
 pub mod NewWalks
 pub mod Keeps
+pub mod Halves
 pub mod Pillow
 pub mod Loops

@@ -11,19 +11,19 @@ use Rattle.std.specs.shelf.Lists.{All, Has}
 use Rattle.std.proofs.shelf.Lists.{length-replicate, getD-replicate, ext-getD}
 use Rattle.std.proofs.shelf.Elements.{all-weaker, all-has, all-append, all-push, all-from-getD, has-append-left, has-append-right}
 use Rattle.std.proofs.shelf.Counted.{length-map-counting, getD-map-counting}
-use Rattle.mesh.specs.Mesh.{Mesh, Lawful}
+use Rattle.mesh.specs.Mesh.{Mesh, Counted, Lawful}
 use Rattle.refinement.specs.Tasks.{Task, quad-task, point-task, Task-of, Names, number, corner-writes, friend-writes, mark-writes, start-writes, blank, run, runs, tasks, refine, Hold, Empty, Refined}
 use Rattle.refinement.specs.Laws.{Owned-once, Slots-owned-once, Work-begins, Work-goes-on, Any-order, Tasks-stand, Tasks-wait, Run-again, Refined-is}
 use Rattle.refinement.proofs.Puts.{Agree, puts, length-puts, puts-make, puts-leave, put-again, names-owner, hold, empty}
 use Rattle.refinement.proofs.Words.{corner-word, corner-owner, corners-agree, corner-named, side-owner, friend-word, friends-agree, friend-named, mark-word, marks-agree, mark-named, start-word, start-owner, starts-agree, start-named}
 
 -- a table of the level after some tasks
-runs-quads : (m : Mesh) (ts : List Task) (w : Mesh) → runs m ts w .quads ≡ w .quads
+pub runs-quads : (m : Mesh) (ts : List Task) (w : Mesh) → runs m ts w .quads ≡ w .quads
 unfolding runs run
 runs-quads m [] w = refl
 runs-quads m (t ∷ ts) w = runs-quads m ts (run m t w)
 
-runs-points : (m : Mesh) (ts : List Task) (w : Mesh) → runs m ts w .points ≡ w .points
+pub runs-points : (m : Mesh) (ts : List Task) (w : Mesh) → runs m ts w .points ≡ w .points
 unfolding runs run
 runs-points m [] w = refl
 runs-points m (t ∷ ts) w = runs-points m ts (run m t w)
@@ -176,18 +176,25 @@ run-again m w t h =
     same-mesh _ _ refl refl (put-again (corner-writes m t) (w .corners) (h .corners-stand)) (put-again (friend-writes m t) (w .friends) (h .friends-stand))
     (put-again (mark-writes m t) (w .marks) (h .marks-stand)) (put-again (start-writes m t) (w .starts) (h .starts-stand))
 
+-- the tables keep their lengths
+pub counted-runs : (m : Mesh) (ts : List Task) → Counted (runs m ts (blank m))
+unfolding blank
+counted-runs m ts =
+    let q = runs-quads m ts (blank m) in
+    record {
+      corner-count = ap length (runs-corners m ts (blank m)) ∙ length-puts (corner-writes m) ts _ ∙ length-replicate _ _ ∙ omega arith;
+      friend-count = ap length (runs-friends m ts (blank m)) ∙ length-puts (friend-writes m) ts _ ∙ length-replicate _ _ ∙ omega arith;
+      mark-count = ap length (runs-marks m ts (blank m)) ∙ length-puts (mark-writes m) ts _ ∙ length-replicate _ _ ∙ omega arith;
+      start-count = ap length (runs-starts m ts (blank m)) ∙ length-puts (start-writes m) ts _ ∙ length-replicate _ _ ∙ sym (runs-points m ts (blank m));
+    }
+
 -- every task stands once every task has run
 pub refined-by : (m : Mesh) → Lawful m → (ts : List Task) → All (Task-of m) ts → ((t : Task) → Task-of m t → Has ts t) → Refined m (runs m ts (blank m))
 unfolding blank
 refined-by m w ts a h = record {
   quads-are = runs-quads m ts (blank m);
   points-are = runs-points m ts (blank m);
-  counted = record {
-    corner-count = ap length (runs-corners m ts (blank m)) ∙ length-puts (corner-writes m) ts _ ∙ length-replicate _ _ ∙ omega (arith, runs-quads m ts (blank m));
-    friend-count = ap length (runs-friends m ts (blank m)) ∙ length-puts (friend-writes m) ts _ ∙ length-replicate _ _ ∙ omega (arith, runs-quads m ts (blank m));
-    mark-count = ap length (runs-marks m ts (blank m)) ∙ length-puts (mark-writes m) ts _ ∙ length-replicate _ _ ∙ omega (arith, runs-quads m ts (blank m));
-    start-count = ap length (runs-starts m ts (blank m)) ∙ length-puts (start-writes m) ts _ ∙ length-replicate _ _ ∙ sym (runs-points m ts (blank m));
-  };
+  counted = counted-runs m ts;
   all-stand = λ t k. tasks-stand m w ts a t (h t k);
 }
 

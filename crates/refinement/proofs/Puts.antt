@@ -40,7 +40,7 @@ unfolding puts
 length-puts f [] t = refl
 length-puts f (x ∷ xs) t = length-puts f xs (put (f x) t) ∙ length-put (f x) t
 
-has-cases : {X : Type 0} (y : X) (ys : List X) (x : X) → Has (y ∷ ys) x → (y ≡ x) ⊎ Has ys x
+pub has-cases : {X : Type 0} (y : X) (ys : List X) (x : X) → Has (y ∷ ys) x → (y ≡ x) ⊎ Has ys x
 has-cases y ys x h = go (h .0) (h .1) (h .2)
   where
     go : (k : ℕ) → k < length (y ∷ ys) → ((d : _) → getD (y ∷ ys) k d ≡ x) → (y ≡ x) ⊎ Has ys x
