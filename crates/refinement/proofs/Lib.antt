@@ -1,0 +1,17 @@
+pub mod Numbers
+pub mod Totals
+pub mod Slots
+pub mod Steps
+pub mod Walks
+pub mod Corners
+pub mod Causes
+pub mod Puts
+pub mod Words
+pub mod Order
+pub mod Made
+pub mod Level
+pub mod NewWalks
+pub mod Keeps
+pub mod Halves
+pub mod Pillow
+pub mod Loops
