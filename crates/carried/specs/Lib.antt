@@ -1,0 +1,4 @@
+pub mod Blends
+pub mod Corners
+pub mod Laws
+pub mod Alike
