@@ -1,5 +1,4 @@
 -- Texture pairs with the same numbers are the same, and what rows make of them.
-use mathlib.Core.Bool.{Bool, true, false}
 use mathlib.Core.Path.{_≡_, refl, toPathP, ap}
 use lib.Dec.{T, T-prop}
 use lib.Ieee.{Float}

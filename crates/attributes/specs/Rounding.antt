@@ -2,11 +2,10 @@
 use mathlib.Core.Path.{_≡_, refl, sym, ap, _∙_, subst}
 use mathlib.Core.Bool.{Bool, true, false, not, cond, _&&_, Bool·beq}
 use Prim.Native.Nat.{ℕ, suc, _+_, _-_, _*_, _/_, _^_, _≤_, _<_}
-use native.Mathlib.Nat.{le-refl, mul-lt-mul-of-pos-right, add-comm, add-mul, mul-comm, mul-assoc, mul-one, mul-right-comm, mul-pos, mul-le-mul-right, le-of-mul-le-mul-right, le-trans, le-of-eq, lt-of-le-of-lt, div-lt-iff-lt-mul, div-one, mod-one}
+use native.Mathlib.Nat.{le-refl, mul-lt-mul-of-pos-right, add-comm, mul-comm, mul-assoc, mul-one, mul-right-comm, mul-pos, mul-le-mul-right, le-of-mul-le-mul-right, le-trans, le-of-eq, lt-of-le-of-lt, div-lt-iff-lt-mul, div-one, mod-one}
 use native.Mathlib.Omega.{arith}
-use lib.Dec.{T, leb, ltb, leb→le, le→leb, ltb→lt, nltb→le, lit≤}
+use lib.Dec.{T, ltb, leb→le, le→leb, ltb→lt, nltb→le, lit≤}
 use lib.Pow.{pow-pos, pow-lt, pow-add}
-use lib.IntN.{ℤ}
 use lib.Ieee.{Float, nan, inf, fin, Format, binary32, prec, emax, low, up, down, size, units, round, sum, add, mul, unlike}
 use lib.Ieee.Digits.{size-le}
 use lib.Ieee.Fits.{two, down-pos, round-is}

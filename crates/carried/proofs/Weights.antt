@@ -2,7 +2,7 @@
 use Prim.Native.Nat.{ℕ, zero, suc, _+_, _-_, _*_, _/_, _%_, min, _≤_, _<_}
 use mathlib.Core.Path.{_≡_, refl, sym, ap, _∙_}
 use mathlib.Core.Bool.{Bool}
-use mathlib.Core.List.{List, [], _∷_, _++_, map}
+use mathlib.Core.List.{List, [], _∷_, map}
 use mathlib.Core.Logic.{inl, inr}
 use native.Mathlib.Omega.{arith}
 use native.Mathlib.Nat.{mul-add, add-mul, mul-comm, mul-assoc, mul-le-mul}
@@ -13,8 +13,8 @@ use Rattle.std.specs.shelf.Lists.{All, joined}
 use Rattle.std.proofs.shelf.Counted.{length-map-counting}
 use Rattle.std.proofs.shelf.Sums.{length-kept-by, countBy-le-length}
 use Rattle.std.proofs.shelf.Elements.{all-append, all-map, all-kept-by, all-weaker}
-use Rattle.std.proofs.shelf.Tests.{cases-eq, cases-lt, cases-order, cond-true, cond-false, cond-both, eq-eqb, ne-eqb, lt-ltb, le-ltb, le-leb, lt-leb, ltb-false}
-use Rattle.mesh.specs.Mesh.{Mesh, Lawful, point, friend, mark, off-edge, begins, ends, walk, valence}
+use Rattle.std.proofs.shelf.Tests.{cases-eq, cases-lt, cases-order, cond-true, cond-false, cond-both, eq-eqb, ne-eqb, lt-ltb, le-ltb, le-leb, lt-leb}
+use Rattle.mesh.specs.Mesh.{Mesh, Lawful, point, friend, mark, off-edge, begins, ends, walk, valence, longest, shortest}
 use Rattle.refinement.specs.Tasks.{old-slot, face-slot, edge-slot}
 use Rattle.refinement.proofs.Totals.{least-is}
 use Rattle.refinement.proofs.Numbers.{by-halves}
@@ -22,20 +22,12 @@ use Rattle.refinement.proofs.Slots.{by-slots}
 use Rattle.refinement.proofs.Corners.{friend-once, friend-met}
 use Rattle.refinement.proofs.Walks.{walk-below}
 use Rattle.kinds.specs.Parts.{most-weight, taken, total}
-use Rattle.kinds.proofs.Parts.{total-append}
+use Rattle.kinds.proofs.Parts.{total-append, total-taken}
 use Rattle.carried.specs.Blends.{other-end, diagonal, face, low-across, high-across, edge, around, marked, smooth, sharpness, some-infinite, creased, cornered, moved, served, parts, times}
 use Rattle.carried.specs.Laws.{Fit, Parts-fit}
 
 -- ---- lists of parts
 module _ {V : Type 0} where
-  pub total-taken : (ps : List (V × ℕ)) → total (taken ps) ≡ total ps
-  total-taken [] = refl
-  total-taken (p ∷ ps) =
-      let r = total-taken ps in
-      cond-both (ltb 0 (p .1)) (p ∷ taken ps) (taken ps) (λ l. total l ≡ p .1 + total ps)
-      (λ e. omega arith)
-      (λ e. let z = ltb-false 0 (p .1) e in omega arith)
-
   left-over : (ps : List (V × ℕ)) → 0 < total ps → 0 < length ps
   left-over [] h = absurd (omega arith)
   left-over (p ∷ ps) h = omega arith
@@ -129,7 +121,7 @@ module _ (m : Mesh) (v : ℕ) where
       let c = around-length in
       omega arith
 
-  module _ (two : 2 ≤ valence m v) where
+  module _ (two : shortest ≤ valence m v) where
     smooth-total : total (smooth m v) ≡ 4 * (valence m v * valence m v)
     unfolding smooth
     smooth-total =
@@ -182,12 +174,12 @@ module _ (m : Mesh) (v : ℕ) where
       ]
     ]
 
-    module _ (most : valence m v ≤ 64) where
+    module _ (most : valence m v ≤ longest) where
       squares-low : 16 ≤ 4 * (valence m v * valence m v)
       squares-low = let a : 2 * 2 ≤ valence m v * valence m v = mul-le-mul two two in omega arith
 
-      squares-high : 4 * (valence m v * valence m v) ≤ 16384
-      squares-high = let a : valence m v * valence m v ≤ 64 * 64 = mul-le-mul most most in omega arith
+      squares-high : 4 * (valence m v * valence m v) ≤ 4 * (longest * longest)
+      squares-high = let a : valence m v * valence m v ≤ longest * longest = mul-le-mul most most in omega arith
 
       moved-some : 0 < total (moved m v)
       moved-some =
@@ -206,7 +198,7 @@ module _ (m : Mesh) (v : ℕ) where
           (λ h. let e = creased-total h in omega arith)
           (λ h. let e = cornered-total in
           let few = marked-few in
-          let p = product-le (4 * (valence m v * valence m v)) (256 * length (marked m v)) 16384 16384 high (omega arith) in omega arith)
+          let p = product-le (4 * (valence m v * valence m v)) (256 * length (marked m v)) (4 * (longest * longest)) (256 * longest) high (omega arith) in omega arith)
 
 -- ---- every part names a point
 abbrev Named : Mesh → ℕ × ℕ → Type 0
@@ -289,13 +281,13 @@ module _ (m : Mesh) (w : Lawful m) where
   unfolding edge
   edge-total o = edge-sum (min (mark m o) 256) (min-at-most _ _)
 
-  fit-face : (q : ℕ) → q < m .quads → Fit m (face m q)
+  pub fit-face : (q : ℕ) → q < m .quads → Fit m (face m q)
   fit-face q h = let e = face-total q in fits (face m q) (face-names q h) (omega arith) (omega arith)
 
-  fit-edge : (o : ℕ) → o < 2 * m .quads → Fit m (edge m o)
+  pub fit-edge : (o : ℕ) → o < 2 * m .quads → Fit m (edge m o)
   fit-edge o h = let e = edge-total o in fits (edge m o) (edge-names o h) (omega arith) (omega arith)
 
-  fit-moved : (v : ℕ) → v < m .points → Fit m (moved m v)
+  pub fit-moved : (v : ℕ) → v < m .points → Fit m (moved m v)
   fit-moved v h =
       let two = w .sound .walks-not-short v h in
       let most = w .sound .walks-return v h in
@@ -363,5 +355,5 @@ parts-fit m w =
       fit = fit-at m w;
     }
   where
-    two : (v : ℕ) → v < m .points → 2 ≤ valence m v
+    two : (v : ℕ) → v < m .points → shortest ≤ valence m v
     two = w .sound .walks-not-short

@@ -1,8 +1,7 @@
 -- A list of parts: each is a value, or the slot of a value, with a whole weight.
-use mathlib.Core.List.{List, [], _∷_, map}
-use Prim.Native.Nat.{ℕ, _+_, _*_}
+use mathlib.Core.List.{List, [], _∷_}
+use Prim.Native.Nat.{ℕ, _+_}
 use lib.Dec.{ltb}
-use lib.ListN.{getD}
 use Rattle.std.specs.shelf.Lists.{kept-by}
 
 -- the greatest weight of a blend

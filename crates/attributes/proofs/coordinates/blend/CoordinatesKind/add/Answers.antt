@@ -1,5 +1,4 @@
 use mathlib.Core.List.{[], _∷_}
-use mathlib.Core.Path.{_≡_}
 use native.Mathlib.Omega.{arith}
 use Rattle.kinds.proofs.Parts.{total-append}
 use Rattle.attributes.proofs.Limits.{fits, sum-fits, sum-next, sum-grows}
