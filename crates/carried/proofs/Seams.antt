@@ -12,9 +12,9 @@ use Rattle.refinement.specs.Tasks.{halves, level, refine}
 use Rattle.refinement.proofs.Numbers.{by-quarters}
 use Rattle.refinement.proofs.Level.{next, next-even, next-begins, friend-inside, friend-at-end, friend-back}
 use Rattle.refinement.proofs.Order.{refined}
-use Rattle.carried.specs.Alike.{Likeness, Alike, Seams-stay-alike}
-use Rattle.carried.specs.Corners.{new-quads, corners, previous, centre, corners-carried, Agree, pieces}
-use Rattle.carried.specs.Laws.{Corners-are, Seams-still-meet}
+use Rattle.carried.specs.Corners.{new-quads, corners, previous, centre, corners-carried, Alike, pieces}
+use Rattle.carried.specs.Laws.{Allowed, Corners-are, Seams-stay, Seams-still-meet}
+use Rattle.carried.specs.Likeness.{Likeness}
 use Rattle.carried.proofs.Levels.{earlier, earlier-by, lawful-at}
 
 ends-below : (o n : ℕ) → o < 2 * n → ends o < 4 * n
@@ -284,9 +284,12 @@ module _ {V : Type 0} (middle : V → V → V) (m : Mesh) (w : Lawful m) where
         rw e (inside-alike like middle laws (level m (j + k)) (lawful-at m w (j + k) u) (corners-carried middle xs k) (many j xs count k u) c b) in
         pieces-alike j xs count (suc k) (2 * c) h a i s
 
-pub seams-stay-alike : {V : Type 0} (like : V → V → Type 0) (middle : V → V → V) → Likeness like middle → Seams-stay-alike like middle
-seams-stay-alike like middle laws m w j xs count =
-    record { pieces-alike = pieces-alike middle m w like laws j xs count; insides-alike = insides-alike middle m w like laws j xs count }
+pub seams-stay : {V : Type 0} (like : V → V → Type 0) (middle : V → V → V) → Likeness like middle → (m : Mesh) → Lawful m → Seams-stay like middle m (Allowed m)
+seams-stay like middle laws m w j xs count = record {
+  as-many = many middle m w j xs count;
+  pieces-meet = pieces-alike middle m w like laws j xs count;
+  insides-meet = insides-alike middle m w like laws j xs count;
+}
 
 -- equality is a likeness
 equals : {V : Type 0} (middle : V → V → V) → ((a b : V) → middle a b ≡ middle b a) → Likeness _≡_ middle
@@ -298,14 +301,15 @@ equals middle even = record {
   even = even;
 }
 
-agree : {V : Type 0} (m : Mesh) (xs : List V) (o : ℕ) → Alike _≡_ m xs o → Agree m xs o
-agree m xs o a = record { at-end = a .at-end; at-beginning = a .at-beginning }
-
 pub seams-still-meet : {V : Type 0} (middle : V → V → V) → ((a b : V) → middle a b ≡ middle b a) → Seams-still-meet middle
-seams-still-meet middle even m w j xs count =
-    let r = seams-stay-alike _≡_ middle (equals middle even) m w j xs count in
+seams-still-meet middle even = seams-stay _≡_ middle (equals middle even)
+
+-- what holds up to each of some levels holds up to each of fewer
+pub seams-nearer : {V : Type 0} (like : V → V → Type 0) (middle : V → V → V) (m : Mesh) (Far Near : ℕ → Type 0) → ((k : ℕ) → Near k → Far k) → Seams-stay like middle m Far → Seams-stay like middle m Near
+seams-nearer like middle m Far Near h f j xs count =
+    let r = f j xs count in
     record {
-      as-many = many middle m w j xs count;
-      pieces-agree = λ k o h a i t. all-weaker _ _ (agree _ _) _ (r .pieces-alike k o h (record { at-end = a .at-end; at-beginning = a .at-beginning }) i t);
-      insides-agree = λ k c h i t. all-weaker _ _ (agree _ _) _ (r .insides-alike k c h i t);
+      as-many = λ i n. r .as-many i (h _ n);
+      pieces-meet = λ k o l a i n. r .pieces-meet k o l a i (h _ n);
+      insides-meet = λ k c l i n. r .insides-meet k c l i (h _ n);
     }

@@ -48,10 +48,10 @@ unfoldable pub corners-carried : {V : Type 0} → (V → V → V) → List V →
 corners-carried middle xs zero = xs
 corners-carried middle xs (suc i) = corners middle (corners-carried middle xs i)
 
--- off-edge o and its friend, the two sides of an edge, agree: at its end and at its beginning
-pub record Agree {V : Type 0} (m : Mesh) (xs : List V) (o : ℕ) : Type 0 where
-  pub at-end : (d : V) → getD xs (ends o) d ≡ getD xs (2 * friend m o) d
-  pub at-beginning : (d : V) → getD xs (begins o) d ≡ getD xs (2 * friend m o + 1) d
+-- off-edge o and its friend, the two sides of an edge, have like values at its end and at its beginning
+pub record Alike {V : Type 0} (like : V → V → Type 0) (m : Mesh) (xs : List V) (o : ℕ) : Type 0 where
+  pub at-end : (d : V) → like (getD xs (ends o) d) (getD xs (2 * friend m o) d)
+  pub at-beginning : (d : V) → like (getD xs (begins o) d) (getD xs (2 * friend m o + 1) d)
 
 -- the pieces of off-edge o of level j, in level j + i: its halves, theirs and so on
 unfoldable pub pieces : Mesh → ℕ → ℕ → ℕ → List ℕ

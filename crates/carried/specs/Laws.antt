@@ -8,7 +8,7 @@ use Rattle.mesh.specs.Mesh.{Mesh, Lawful, most-quads}
 use Rattle.refinement.specs.Tasks.{level}
 use Rattle.kinds.specs.Parts.{most-weight, taken, total}
 use Rattle.carried.specs.Blends.{face, edge, smooth-weight, moved, marked, parts, values, Blends, carried}
-use Rattle.carried.specs.Corners.{corners, Middles, corners-carried, Agree, pieces}
+use Rattle.carried.specs.Corners.{corners, Middles, corners-carried, Alike, pieces}
 
 -- parts that can be blended: each names a point, one or more are left, and their weights are not too much
 pub record Fit (m : Mesh) (ps : List (ℕ × ℕ)) : Type 0 where
@@ -41,28 +41,41 @@ Values-are {V} blended = (m : Mesh) → Lawful m → (xs : List V) → length xs
 abbrev pub Corners-are : {V : Type 0} → (V → V → V) → Type 0
 Corners-are {V} middle = (n : ℕ) (xs : List V) → length xs ≡ 4 * n → Only (Middles middle n xs) (corners middle xs)
 
--- values carried from any list for level j lie, at every later level, in every range that held all of the first ones
+-- level k of m is not too large
+abbrev pub Allowed : Mesh → ℕ → Type 0
+Allowed m k = 4 ^ k * m .quads ≤ most-quads
+
+-- ys, the values of level k, lie in every range that held all of the values xs
 pub record Stays {V R : Type 0} (lies : R → V → Type 0) (m : Mesh) (k : ℕ) (xs ys : List V) : Type 0 where
   pub as-many : length ys ≡ level m k .points
   pub in-range : (b : R) → All (lies b) xs → All (lies b) ys
 
+-- values carried from any list for level j stay in range up to each level that is near
+abbrev pub Values-stay : {V R : Type 0} → (R → V → Type 0) → (List (V × ℕ) → V) → Mesh → (ℕ → Type 0) → Type 0
+Values-stay {V} lies blended m Near =
+    (j i : ℕ) → Near (j + i) → (xs : List V) → length xs ≡ level m j .points → Stays lies m (j + i) xs (carried blended m j xs i)
+
 abbrev pub Values-stay-in-range : {V R : Type 0} → (R → V → Type 0) → (List (V × ℕ) → V) → Type 0
-Values-stay-in-range {V} lies blended =
-    (m : Mesh) → Lawful m → (j i : ℕ) → 4 ^ (j + i) * m .quads ≤ most-quads →
-    (xs : List V) → length xs ≡ level m j .points → Stays lies m (j + i) xs (carried blended m j xs i)
+Values-stay-in-range lies blended = (m : Mesh) → Lawful m → Values-stay lies blended m (Allowed m)
 
--- corner values carried from any list for level j: the pieces of an edge whose sides agree, at that level or a later one, agree at every level
--- after it; and so do, at each level after the first list's, the edges made inside a quad, which are those of even off-edges, and their pieces
-pub record Seams-meet {V : Type 0} (middle : V → V → V) (m : Mesh) (j : ℕ) (xs : List V) : Type 0 where
-  pub as-many : (i : ℕ) → 4 ^ (j + i) * m .quads ≤ most-quads → length (corners-carried middle xs i) ≡ 4 * level m (j + i) .quads
-  pub pieces-agree :
-      (k o : ℕ) → o < 2 * level m (j + k) .quads → Agree (level m (j + k)) (corners-carried middle xs k) o →
-      (i : ℕ) → 4 ^ (j + k + i) * m .quads ≤ most-quads →
-      All (Agree (level m (j + k + i)) (corners-carried middle xs (k + i))) (pieces m (j + k) o i)
-  pub insides-agree :
+-- corner values carried from the list xs for level j, up to each level that is near: the pieces of an edge whose sides are alike, at level j or a
+-- later one, are alike at every level after it; and so are, at each level after j, the edges made inside a quad, which are those of even
+-- off-edges, and their pieces
+pub record Seams-meet {V : Type 0} (like : V → V → Type 0) (middle : V → V → V) (m : Mesh) (Near : ℕ → Type 0) (j : ℕ) (xs : List V) : Type 0 where
+  pub as-many : (i : ℕ) → Near (j + i) → length (corners-carried middle xs i) ≡ 4 * level m (j + i) .quads
+  pub pieces-meet :
+      (k o : ℕ) → o < 2 * level m (j + k) .quads → Alike like (level m (j + k)) (corners-carried middle xs k) o →
+      (i : ℕ) → Near (j + k + i) →
+      All (Alike like (level m (j + k + i)) (corners-carried middle xs (k + i))) (pieces m (j + k) o i)
+  pub insides-meet :
       (k c : ℕ) → 2 * c < 2 * level m (j + suc k) .quads →
-      (i : ℕ) → 4 ^ (j + suc k + i) * m .quads ≤ most-quads →
-      All (Agree (level m (j + suc k + i)) (corners-carried middle xs (suc k + i))) (pieces m (j + suc k) (2 * c) i)
+      (i : ℕ) → Near (j + suc k + i) →
+      All (Alike like (level m (j + suc k + i)) (corners-carried middle xs (suc k + i))) (pieces m (j + suc k) (2 * c) i)
 
+-- so from any list for any level
+abbrev pub Seams-stay : {V : Type 0} → (V → V → Type 0) → (V → V → V) → Mesh → (ℕ → Type 0) → Type 0
+Seams-stay {V} like middle m Near = (j : ℕ) (xs : List V) → length xs ≡ 4 * level m j .quads → Seams-meet like middle m Near j xs
+
+-- two sides agree where their values are equal
 abbrev pub Seams-still-meet : {V : Type 0} → (V → V → V) → Type 0
-Seams-still-meet {V} middle = (m : Mesh) → Lawful m → (j : ℕ) (xs : List V) → length xs ≡ 4 * level m j .quads → Seams-meet middle m j xs
+Seams-still-meet middle = (m : Mesh) → Lawful m → Seams-stay _≡_ middle m (Allowed m)

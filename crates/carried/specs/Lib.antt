@@ -1,4 +1,4 @@
 pub mod Blends
 pub mod Corners
 pub mod Laws
-pub mod Alike
+pub mod Likeness
