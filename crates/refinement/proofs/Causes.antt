@@ -1,18 +1,18 @@
 -- A mesh is declined for its first cause at its first place, and for nothing where it is lawful.
-use Prim.Native.Nat.{ℕ, zero, suc, _+_, _*_, _≤_, _<_}
+use Prim.Native.Nat.{ℕ, zero, suc, _*_, _≤_, _<_}
 use mathlib.Core.Path.{_≡_, refl, sym, ap, _∙_, subst}
 use mathlib.Core.Bool.{Bool, true, false, not}
 use mathlib.Core.Logic.{_⊎_, inl, inr}
 use native.Mathlib.Omega.{arith}
-use lib.Dec.{leb, ltb, eqb}
-use Rattle.std.proofs.shelf.Tests.{cases-lt, cases-eq, cases-order, and-parts, and-from, or-cases, or-left, or-right, eqb-true, eq-eqb, leb-true, le-leb, leb-false, ltb-true, lt-ltb, le-ltb, ltb-false, cond-true, cond-false, not-true, not-false, not-from-true, not-from-false, both-ways}
+use Rattle.std.proofs.shelf.Tests.{cases-lt, cases-order, lt-ltb, le-ltb, cond-true, cond-false, not-true, not-false, not-from-true, not-from-false}
 use Rattle.mesh.specs.Causes.{Cause, wrong-shape, too-few-quads, too-many-quads, too-few-points, too-many-points, no-such-point, no-such-edge, no-mark, not-opposed, start-past-end, start-elsewhere, not-back, unmet, First-back, First-cause, once, each, judge, shape-ok, quads-ok, points-ok, corner-ok, friend-ok, mark-ok, back-ok, start-ok, walk-ok, all-met, mesh-of}
 use Rattle.mesh.specs.Count.{least, total}
 use Rattle.mesh.specs.Marks.{Mark-word}
-use Rattle.mesh.specs.Mesh.{Mesh, Counted, Sound, Lawful, Meets, Runs-back, point, friend, mark, start, begins, ends, walk, shortest, longest, valence, fewest-quads, most-quads}
+use Rattle.mesh.specs.Mesh.{Mesh, Counted, Sound, Lawful, Meets, Runs-back, point, friend, mark, start, shortest, longest, valence, fewest-quads, most-quads}
 use Rattle.mesh.specs.Refusals.{Verdict, fine, declined}
 use Rattle.refinement.specs.Laws.{Causes-tried-in-order, Judges, Tables-have-shape}
 use Rattle.refinement.proofs.Corners.{walks-meet-at-most, corners-met-once, unmet-corner}
+use Rattle.refinement.proofs.Tests.{Tells, denies, decides, shape-tells, quads-tell, points-tell, corner-tells, friend-tells, mark-tells, back-tells, start-tells, walk-tells, met-tells}
 use Rattle.refinement.proofs.Totals.{least-is, least-none, least-fails, least-passes}
 use Rattle.refinement.proofs.Walks.{valence-is, walk-back, walk-not-back}
 
@@ -25,10 +25,8 @@ same-number k p j q e = cc
 same-place : (k p j q : ℕ) → declined k p ≡ declined j q → p ≡ q
 same-place k p j q e = cc
 
--- a test that does not fail passes
-passes : (b : Bool) → (b ≡ false → ⊥) → b ≡ true
-passes true f = refl
-passes false f = absurd (f refl)
+not-below : (a b : ℕ) → (a < b → ⊥) → b ≤ a
+not-below a b n = elim (cases-lt a b) [ inl l ↦ absurd (n l) | inr l ↦ l ]
 
 module _ (m : Mesh) where
   -- what a cause of each number says
@@ -123,130 +121,67 @@ module _ (m : Mesh) where
             ])))
       ]
 
-  -- each test against its cause
-  shape-counted : shape-ok m ≡ true → Counted m
-  unfolding shape-ok
-  shape-counted t =
-      let s = and-parts _ _ t in
-      let a = and-parts _ _ (s .0) in
-      let b = and-parts _ _ (s .1) in
-      record { corner-count = eqb-true _ _ (a .0); friend-count = eqb-true _ _ (a .1); mark-count = eqb-true _ _ (b .0); start-count = eqb-true _ _ (b .1) }
-
-  shape-passes : Counted m → shape-ok m ≡ true
-  unfolding shape-ok
-  shape-passes c = and-from _ _ (and-from _ _ (eq-eqb _ _ (c .corner-count)) (eq-eqb _ _ (c .friend-count))) (and-from _ _ (eq-eqb _ _ (c .mark-count)) (eq-eqb _ _ (c .start-count)))
-
-  quads-fail : quads-ok m ≡ false → Cause m 2 0
-  unfolding quads-ok
-  quads-fail f = elim (cases-lt (m .quads) fewest-quads) [
-    | inl l ↦ too-few-quads refl refl l
-    | inr l ↦ elim (cases-lt most-quads (m .quads)) [
-      | inl h ↦ too-many-quads refl refl h
-      | inr h ↦ absurd (both-ways (quads-ok m) f (and-from _ _ (le-leb _ _ l) (le-leb _ _ h)))
-    ]
+  -- a number that is not within two bounds
+  outside : (a x b : ℕ) → ((a ≤ x) × (x ≤ b) → ⊥) → (x < a) ⊎ (b < x)
+  outside a x b n = elim (cases-lt x a) [
+    | inl l ↦ inl l
+    | inr l ↦ elim (cases-lt b x) [ inl h ↦ inr h | inr h ↦ absurd (n (l, h)) ]
   ]
 
-  quads-pass : quads-ok m ≡ true → (m .quads < fewest-quads) ⊎ (most-quads < m .quads) → ⊥
-  unfolding quads-ok
-  quads-pass t s =
-      let a = and-parts (leb fewest-quads (m .quads)) (leb (m .quads) most-quads) t in
-      let l = leb-true fewest-quads (m .quads) (a .0) in
-      let h = leb-true (m .quads) most-quads (a .1) in
-      elim s [ inl x ↦ omega arith | inr x ↦ omega arith ]
+  quads-outside : (m .quads < fewest-quads) ⊎ (most-quads < m .quads) → Cause m 2 0
+  quads-outside (inl l) = too-few-quads refl refl l
+  quads-outside (inr l) = too-many-quads refl refl l
 
-  points-fail : points-ok m ≡ false → Cause m 3 0
-  unfolding points-ok
-  points-fail f = elim (cases-lt (m .points) (m .quads)) [
-    | inl l ↦ too-few-points refl refl l
-    | inr l ↦ elim (cases-lt (2 * m .quads) (m .points)) [
-      | inl h ↦ too-many-points refl refl h
-      | inr h ↦ absurd (both-ways (points-ok m) f (and-from _ _ (le-leb _ _ l) (le-leb _ _ h)))
-    ]
-  ]
+  points-outside : (m .points < m .quads) ⊎ (2 * m .quads < m .points) → Cause m 3 0
+  points-outside (inl l) = too-few-points refl refl l
+  points-outside (inr l) = too-many-points refl refl l
 
-  points-pass : points-ok m ≡ true → (m .points < m .quads) ⊎ (2 * m .quads < m .points) → ⊥
-  unfolding points-ok
-  points-pass t s =
-      let a = and-parts (leb (m .quads) (m .points)) (leb (m .points) (2 * m .quads)) t in
-      let l = leb-true (m .quads) (m .points) (a .0) in
-      let h = leb-true (m .points) (2 * m .quads) (a .1) in
-      elim s [ inl x ↦ omega arith | inr x ↦ omega arith ]
+  within : (a x b : ℕ) → (a ≤ x) × (x ≤ b) → (x < a) ⊎ (b < x) → ⊥
+  within a x b p s = let l = p .0 in let h = p .1 in elim s [ inl y ↦ omega arith | inr y ↦ omega arith ]
 
-  mark-passes : (o : ℕ) → Mark-word (mark m o) → mark-ok m o ≡ true
-  unfolding mark-ok
-  mark-passes o h = elim h [ inl l ↦ or-left _ _ (le-leb _ _ l) | inr e ↦ or-right _ _ (eq-eqb _ _ e) ]
-
-  mark-word : (o : ℕ) → mark-ok m o ≡ true → Mark-word (mark m o)
-  unfolding mark-ok
-  mark-word o t = elim (or-cases _ _ t) [ inl l ↦ inl (leb-true _ _ l) | inr e ↦ inr (eqb-true _ _ e) ]
-
-  back-passes : (o : ℕ) → Runs-back m o → back-ok m o ≡ true
-  unfolding back-ok
-  back-passes o h = and-from _ _ (eq-eqb _ _ (h .from-end)) (eq-eqb _ _ (h .to-beginning))
-
-  runs-back : (o : ℕ) → back-ok m o ≡ true → Runs-back m o
-  unfolding back-ok
-  runs-back o t = let b = and-parts _ _ t in record { from-end = eqb-true _ _ (b .0); to-beginning = eqb-true _ _ (b .1) }
-
-  start-fail : (v : ℕ) → v < m .points → start-ok m v ≡ false → Cause m 8 v
-  unfolding start-ok
-  start-fail v h f = elim (cases-lt (start m v) (4 * m .quads)) [
-    | inl l ↦ start-elsewhere refl h (λ e. both-ways (start-ok m v) f (and-from _ _ (lt-ltb _ _ l) (eq-eqb _ _ e)))
+  start-wrong : (v : ℕ) → v < m .points → ((start m v < 4 * m .quads) × (point m (start m v) ≡ v) → ⊥) → Cause m 8 v
+  start-wrong v h n = elim (cases-lt (start m v) (4 * m .quads)) [
+    | inl l ↦ start-elsewhere refl h (λ e. n (l, e))
     | inr l ↦ start-past-end refl h l
   ]
 
-  start-pass : (v : ℕ) → start-ok m v ≡ true → (4 * m .quads ≤ start m v) ⊎ (point m (start m v) ≡ v → ⊥) → ⊥
-  unfolding start-ok
-  start-pass v t s =
-      let a = and-parts (ltb (start m v) (4 * m .quads)) (eqb (point m (start m v)) v) t in
-      let l = ltb-true (start m v) (4 * m .quads) (a .0) in
-      elim s [ inl x ↦ omega arith | inr x ↦ x (eqb-true _ _ (a .1)) ]
+  start-right : (v : ℕ) → (start m v < 4 * m .quads) × (point m (start m v) ≡ v) → (4 * m .quads ≤ start m v) ⊎ (point m (start m v) ≡ v → ⊥) → ⊥
+  start-right v p s = let l = p .0 in elim s [ inl x ↦ omega arith | inr x ↦ x (p .1) ]
 
-  walk-fail : (v : ℕ) → walk-ok m v ≡ false → (n : ℕ) → shortest ≤ n → n ≤ longest → First-back m v n → ⊥
-  unfolding walk-ok
-  walk-fail v f n l h b =
+  -- a walk is first back after its valence, if that is not too much
+  walk-right : (v : ℕ) → valence m v ≤ longest → First-back m v (valence m v)
+  walk-right v h = record { back = walk-back m v h; not-before = λ i x y. walk-not-back m v i (omega arith) y }
+
+  walk-wrong : (v : ℕ) → ((shortest ≤ valence m v) × (valence m v ≤ longest) → ⊥) → (n : ℕ) → shortest ≤ n → n ≤ longest → First-back m v n → ⊥
+  walk-wrong v f n l h b =
       let e = valence-is m v n (omega arith) h (b .back) (λ i x y. b .not-before i (omega arith) y) in
-      both-ways (walk-ok m v) f (and-from _ _ (le-leb shortest (valence m v) (omega arith)) (le-leb (valence m v) longest (omega arith)))
-
-  walk-pass : (v : ℕ) → walk-ok m v ≡ true → ((n : ℕ) → shortest ≤ n → n ≤ longest → First-back m v n → ⊥) → ⊥
-  unfolding walk-ok
-  walk-pass v t never =
-      let a = and-parts _ _ t in
-      let h = leb-true _ _ (a .1) in
-      never (valence m v) (leb-true _ _ (a .0)) h (record { back = walk-back m v h; not-before = λ i x y. walk-not-back m v i (omega arith) y })
-
-  walk-range : Clear 10 → (v : ℕ) → v < m .points → (shortest ≤ valence m v) × (valence m v ≤ longest)
-  unfolding walk-ok
-  walk-range clear v h =
-      let a = and-parts _ _ (passes (walk-ok m v) (λ f. clear 9 v (omega arith) (not-back refl h (walk-fail v f)))) in
-      (leb-true _ _ (a .0), leb-true _ _ (a .1))
+      f (omega arith, omega arith)
 
   -- where no cause below 10 holds the tables are sound
-  sound : Clear 10 → Sound m
-  sound clear = record {
-    counted = shape-counted (passes (shape-ok m) (λ f. clear 1 0 (omega arith) (wrong-shape refl refl (λ x. both-ways (shape-ok m) f (shape-passes x)))));
-    quads-enough = elim (cases-lt (m .quads) fewest-quads) [ inl l ↦ absurd (clear 2 0 (omega arith) (too-few-quads refl refl l)) | inr l ↦ l ];
-    quads-few = elim (cases-lt most-quads (m .quads)) [ inl l ↦ absurd (clear 2 0 (omega arith) (too-many-quads refl refl l)) | inr l ↦ l ];
-    points-enough = elim (cases-lt (m .points) (m .quads)) [ inl l ↦ absurd (clear 3 0 (omega arith) (too-few-points refl refl l)) | inr l ↦ l ];
-    points-few = elim (cases-lt (2 * m .quads) (m .points)) [ inl l ↦ absurd (clear 3 0 (omega arith) (too-many-points refl refl l)) | inr l ↦ l ];
-    corners-have-points = λ c h. elim (cases-lt (point m c) (m .points)) [ inl l ↦ l | inr l ↦ absurd (clear 4 c (omega arith) (no-such-point refl h l)) ];
-    friends-are-edges = λ o h. elim (cases-lt (friend m o) (2 * m .quads)) [ inl l ↦ l | inr l ↦ absurd (clear 5 o (omega arith) (no-such-edge refl h l)) ];
-    marks-are-words = λ o h. mark-word o (passes (mark-ok m o) (λ f. clear 6 o (omega arith) (no-mark refl h (λ x. both-ways (mark-ok m o) f (mark-passes o x)))));
-    friends-run-back = λ o h. runs-back o (passes (back-ok m o) (λ f. clear 7 o (omega arith) (not-opposed refl h (λ x. both-ways (back-ok m o) f (back-passes o x)))));
-    starts-are-corners = λ v h. elim (cases-lt (start m v) (4 * m .quads)) [ inl l ↦ l | inr l ↦ absurd (clear 8 v (omega arith) (start-past-end refl h l)) ];
-    starts-at-points = λ v h. elim (cases-eq (point m (start m v)) v) [ inl e ↦ e | inr e ↦ absurd (clear 8 v (omega arith) (start-elsewhere refl h e)) ];
-    walks-not-short = λ v h. walk-range clear v h .0;
-    walks-return = λ v h. walk-range clear v h .1;
-  }
+  holds-unless : {t : Bool} {P : Type 0} → Tells t P → ((P → ⊥) → ⊥) → P
+  holds-unless d n = elim (decides d) [ inl p ↦ p | inr p ↦ absurd (n p) ]
 
-  lawful : Clear 11 → Lawful m
-  lawful clear =
-      let w = sound (λ j i l. clear j i (omega arith)) in
-      let most = walks-meet-at-most m w in
-      elim (cases-lt (total (valence m) (m .points)) (4 * m .quads)) [
-        | inl l ↦ let r = unmet-corner m w l in absurd (clear 10 0 (omega arith) (unmet refl refl (r .0) (r .1) (r .2)))
-        | inr l ↦ record { sound = w; walks-meet-all = omega arith }
-      ]
+  sound : Clear 10 → Sound m
+  sound clear =
+      let quads = holds-unless (quads-tell m) (λ n. clear 2 0 (omega arith) (quads-outside (outside fewest-quads (m .quads) most-quads n))) in
+      let points = holds-unless (points-tell m) (λ n. clear 3 0 (omega arith) (points-outside (outside (m .quads) (m .points) (2 * m .quads) n))) in
+      let starts = λ (v : ℕ) (h : v < m .points). holds-unless (start-tells m v) (λ n. clear 8 v (omega arith) (start-wrong v h n)) in
+      let walks = λ (v : ℕ) (h : v < m .points). holds-unless (walk-tells m v) (λ n. clear 9 v (omega arith) (not-back refl h (walk-wrong v n))) in
+      record {
+        counted = holds-unless (shape-tells m) (λ n. clear 1 0 (omega arith) (wrong-shape refl refl n));
+        quads-enough = quads .0;
+        quads-few = quads .1;
+        points-enough = points .0;
+        points-few = points .1;
+        corners-have-points = λ c h. elim (cases-lt (point m c) (m .points)) [ inl l ↦ l | inr l ↦ absurd (clear 4 c (omega arith) (no-such-point refl h l)) ];
+        friends-are-edges = λ o h. elim (cases-lt (friend m o) (2 * m .quads)) [ inl l ↦ l | inr l ↦ absurd (clear 5 o (omega arith) (no-such-edge refl h l)) ];
+        marks-are-words = λ o h. holds-unless (mark-tells m o) (λ n. clear 6 o (omega arith) (no-mark refl h n));
+        friends-run-back = λ o h. holds-unless (back-tells m o) (λ n. clear 7 o (omega arith) (not-opposed refl h n));
+        starts-are-corners = λ v h. starts v h .0;
+        starts-at-points = λ v h. starts v h .1;
+        walks-not-short = λ v h. walks v h .0;
+        walks-return = λ v h. walks v h .1;
+      }
 
   -- a lawful mesh has no cause
   no-cause : Lawful m → (k p : ℕ) → Cause m k p → ⊥
@@ -261,45 +196,55 @@ module _ (m : Mesh) where
   no-cause w k p (not-opposed e l h) = h (w .sound .friends-run-back p l)
   no-cause w k p (start-past-end e l h) = let x = w .sound .starts-are-corners p l in omega arith
   no-cause w k p (start-elsewhere e l h) = h (w .sound .starts-at-points p l)
-  no-cause w k p (not-back e l h) =
-      let b = w .sound .walks-return p l in
-      h (valence m p) (w .sound .walks-not-short p l) b (record { back = walk-back m p b; not-before = λ i x y. walk-not-back m p i (omega arith) y })
+  no-cause w k p (not-back e l h) = let b = w .sound .walks-return p l in h (valence m p) (w .sound .walks-not-short p l) b (walk-right p b)
   no-cause w k p (unmet e z c l h) = let r = corners-met-once m w c l in h (r .by) (r .after) (r .meets)
 
-  met-pass : Sound m → all-met m ≡ true → Lawful m
-  unfolding all-met
-  met-pass w t = let a = leb-true _ _ t in let b = walks-meet-at-most m w in record { sound = w; walks-meet-all = omega arith }
+  -- the test of cause 10
+  met-right : Sound m → 4 * m .quads ≤ total (valence m) (m .points) → Lawful m
+  met-right w l = let b = walks-meet-at-most m w in record { sound = w; walks-meet-all = omega arith }
 
-  met-fail : Sound m → all-met m ≡ false → Cause m 10 0
-  unfolding all-met
-  met-fail w f = let r = unmet-corner m w (leb-false _ _ f) in unmet refl refl (r .0) (r .1) (r .2)
+  met-wrong : Sound m → (4 * m .quads ≤ total (valence m) (m .points) → ⊥) → Cause m 10 0
+  met-wrong w n = elim (cases-lt (total (valence m) (m .points)) (4 * m .quads)) [
+    | inl l ↦ let r = unmet-corner m w l in unmet refl refl (r .0) (r .1) (r .2)
+    | inr l ↦ absurd (n l)
+  ]
+
+  lawful : Clear 11 → Lawful m
+  lawful clear =
+      let w = sound (λ j i l. clear j i (omega arith)) in
+      met-right w (holds-unless (met-tells m) (λ n. clear 10 0 (omega arith) (met-wrong w n)))
+
+  no-zero : (j i : ℕ) → j < 1 → Cause m j i → ⊥
+  unfolding Says
+  no-zero zero i l c = says zero i c
+  no-zero (suc j) i l c = omega arith
 
   -- all the tests, one after the other
   right : Right (judge m)
-  unfolding judge Says corner-ok friend-ok
+  unfolding judge Says
   right =
-      right-once 1 (shape-ok m) _ (λ t i c. says 1 i c (shape-counted t)) (λ f. wrong-shape refl refl (λ x. both-ways (shape-ok m) f (shape-passes x)))
-      (λ j i l c. at-first j i l (says j i c)) (λ c2.
-      right-once 2 (quads-ok m) _ (λ t i c. quads-pass t (says 2 i c)) quads-fail c2 (λ c3.
-      right-once 3 (points-ok m) _ (λ t i c. points-pass t (says 3 i c)) points-fail c3 (λ c4.
+      right-once 1 (shape-ok m) _ (λ t i c. says 1 i c (shape-tells m .holds t)) (λ f. wrong-shape refl refl (denies (shape-tells m) f)) no-zero (λ c2.
+      right-once 2 (quads-ok m) _ (λ t i c. within fewest-quads (m .quads) most-quads (quads-tell m .holds t) (says 2 i c))
+      (λ f. quads-outside (outside fewest-quads (m .quads) most-quads (denies (quads-tell m) f))) c2 (λ c3.
+      right-once 3 (points-ok m) _ (λ t i c. within (m .quads) (m .points) (2 * m .quads) (points-tell m .holds t) (says 3 i c))
+      (λ f. points-outside (outside (m .quads) (m .points) (2 * m .quads) (denies (points-tell m) f))) c3 (λ c4.
       right-each 4 (corner-ok m) (4 * m .quads) _
-      (λ i h t c. let a = ltb-true _ _ t in let b = says 4 i c .1 in omega arith) (λ i h f. no-such-point refl h (ltb-false _ _ f)) (λ i h c. let a = says 4 i c .0 in omega arith) c4 (λ c5.
+      (λ i h t c. let a = corner-tells m i .holds t in let b = says 4 i c .1 in omega arith)
+      (λ i h f. no-such-point refl h (not-below (point m i) (m .points) (denies (corner-tells m i) f))) (λ i h c. let a = says 4 i c .0 in omega arith) c4 (λ c5.
       right-each 5 (friend-ok m) (2 * m .quads) _
-      (λ i h t c. let a = ltb-true _ _ t in let b = says 5 i c .1 in omega arith) (λ i h f. no-such-edge refl h (ltb-false _ _ f)) (λ i h c. let a = says 5 i c .0 in omega arith) c5 (λ c6.
+      (λ i h t c. let a = friend-tells m i .holds t in let b = says 5 i c .1 in omega arith)
+      (λ i h f. no-such-edge refl h (not-below (friend m i) (2 * m .quads) (denies (friend-tells m i) f))) (λ i h c. let a = says 5 i c .0 in omega arith) c5 (λ c6.
       right-each 6 (mark-ok m) (2 * m .quads) _
-      (λ i h t c. says 6 i c .1 (mark-word i t)) (λ i h f. no-mark refl h (λ x. both-ways (mark-ok m i) f (mark-passes i x))) (λ i h c. let a = says 6 i c .0 in omega arith) c6 (λ c7.
+      (λ i h t c. says 6 i c .1 (mark-tells m i .holds t)) (λ i h f. no-mark refl h (denies (mark-tells m i) f)) (λ i h c. let a = says 6 i c .0 in omega arith) c6 (λ c7.
       right-each 7 (back-ok m) (2 * m .quads) _
-      (λ i h t c. says 7 i c .1 (runs-back i t)) (λ i h f. not-opposed refl h (λ x. both-ways (back-ok m i) f (back-passes i x))) (λ i h c. let a = says 7 i c .0 in omega arith) c7 (λ c8.
+      (λ i h t c. says 7 i c .1 (back-tells m i .holds t)) (λ i h f. not-opposed refl h (denies (back-tells m i) f)) (λ i h c. let a = says 7 i c .0 in omega arith) c7 (λ c8.
       right-each 8 (start-ok m) (m .points) _
-      (λ i h t c. start-pass i t (says 8 i c .1)) (λ i h f. start-fail i h f) (λ i h c. let a = says 8 i c .0 in omega arith) c8 (λ c9.
+      (λ i h t c. start-right i (start-tells m i .holds t) (says 8 i c .1)) (λ i h f. start-wrong i h (denies (start-tells m i) f)) (λ i h c. let a = says 8 i c .0 in omega arith) c8 (λ c9.
       right-each 9 (walk-ok m) (m .points) _
-      (λ i h t c. walk-pass i t (says 9 i c .1)) (λ i h f. not-back refl h (walk-fail i f)) (λ i h c. let a = says 9 i c .0 in omega arith) c9 (λ c10.
-      right-once 10 (all-met m) fine (λ t i c. no-cause (met-pass (sound c10) t) 10 i c) (met-fail (sound c10)) c10 (λ c11.
+      (λ i h t c. let w = walk-tells m i .holds t in says 9 i c .1 (valence m i) (w .0) (w .1) (walk-right i (w .1)))
+      (λ i h f. not-back refl h (walk-wrong i (denies (walk-tells m i) f))) (λ i h c. let a = says 9 i c .0 in omega arith) c9 (λ c10.
+      right-once 10 (all-met m) fine (λ t i c. no-cause (met-right (sound c10) (met-tells m .holds t)) 10 i c) (λ f. met-wrong (sound c10) (denies (met-tells m) f)) c10 (λ c11.
       record { none = λ e. c11; first = λ k p e. absurd (declined-not-fine k p (sym e)) }))))))))))
-    where
-      at-first : (j i : ℕ) → j < 1 → Says j i → ⊥
-      at-first zero i l h = h
-      at-first (suc j) i l h = omega arith
 
   first-once : (k p j q : ℕ) → First-cause m k p → First-cause m j q → declined k p ≡ declined j q
   first-once k p j q a b = elim (cases-order k j) [

@@ -107,11 +107,11 @@ module _ (m : Mesh) (w : Lawful m) where
       r = corner-met c h
 
       go : (i : ℕ) → i < valence m v → walk m v i ≡ c → (b : ℕ) × (b < 4 * m .quads) × (step m b ≡ c)
-      go zero l e = last (valence m v) refl
+      go zero l e = back-one (valence m v) refl
         where
-          last : (n : ℕ) → valence m v ≡ n → (b : ℕ) × (b < 4 * m .quads) × (step m b ≡ c)
-          last zero s = absurd (omega arith)
-          last (suc n) s = (walk m v n, walk-below m (w .sound) v n v-below, (ap (walk m v) (sym s) ∙ walk-back m v (w .sound .walks-return v v-below)) ∙ e)
+          back-one : (n : ℕ) → valence m v ≡ n → (b : ℕ) × (b < 4 * m .quads) × (step m b ≡ c)
+          back-one zero s = absurd (omega arith)
+          back-one (suc n) s = (walk m v n, walk-below m (w .sound) v n v-below, (ap (walk m v) (sym s) ∙ walk-back m v (w .sound .walks-return v v-below)) ∙ e)
       go (suc i) l e = (walk m v i, walk-below m (w .sound) v i v-below, e)
 
   -- two places of one walk from which a step leads to one corner

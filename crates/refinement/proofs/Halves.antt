@@ -1,13 +1,13 @@
 -- Each new edge that is not made inside a quad is a half of exactly one edge.
-use Prim.Native.Nat.{ℕ, _+_, _*_, _/_, _%_, _<_}
+use Prim.Native.Nat.{ℕ, _+_, _*_, _/_, _%_}
 use mathlib.Core.Path.{_≡_, sym, ap, _∙_}
 use mathlib.Core.Logic.{inl, inr}
 use native.Mathlib.Omega.{arith}
-use Rattle.mesh.specs.Mesh.{Mesh, Lawful, friend, off-edge, ends}
+use Rattle.mesh.specs.Mesh.{friend, off-edge, ends}
 use Rattle.refinement.proofs.Numbers.{sides}
 use Rattle.refinement.proofs.Steps.{off-edge-ends, ends-off-edge, off-edge-below}
 use Rattle.refinement.proofs.Corners.{friend-once, friend-met}
-use Rattle.refinement.specs.Laws.{Half-of-one, Halves-are}
+use Rattle.refinement.specs.Laws.{Halves-are}
 
 ends-side : (o : ℕ) → ends o % 2 ≡ 0
 unfolding ends

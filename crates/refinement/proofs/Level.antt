@@ -169,12 +169,12 @@ module _ (m : Mesh) (w : Lawful m) (r : Mesh) (d : Refined m r) where
   pub step-edge-1 : (o : ℕ) → o < 2 * m .quads → step r (8 * friend m o + 7) ≡ 8 * o + 5
   unfolding off-edge
   step-edge-1 o h =
-      let a : off-edge (8 * friend m o + 7) ≡ 4 * friend m o + 3 = off-edge-last (friend m o) in
+      let a : off-edge (8 * friend m o + 7) ≡ 4 * friend m o + 3 = off-edge-third (friend m o) in
       let s = step-by (8 * friend m o + 7) (4 * friend m o + 3) (4 * o + 2) a (friend-back o h) in
       omega arith
     where
-      off-edge-last : (g : ℕ) → off-edge (8 * g + 7) ≡ 4 * g + 3
-      off-edge-last g = grind (arith, tells)
+      off-edge-third : (g : ℕ) → off-edge (8 * g + 7) ≡ 4 * g + 3
+      off-edge-third g = grind (arith, tells)
 
   pub step-edge-2 : (o : ℕ) → o < 2 * m .quads → step r (8 * o + 5) ≡ 4 * ends o + 3
   unfolding off-edge

@@ -4,6 +4,7 @@ pub mod Slots
 pub mod Steps
 pub mod Walks
 pub mod Corners
+pub mod Tests
 pub mod Causes
 pub mod Puts
 pub mod Words

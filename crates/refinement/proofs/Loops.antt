@@ -1,5 +1,5 @@
 -- What code over lent tables needs: a walk step by step, the first fault of a table, and words laid side by side.
-use Prim.Native.Nat.{ℕ, zero, suc, _+_, _*_, _/_, _%_, _≤_, _<_}
+use Prim.Native.Nat.{ℕ, zero, suc, _+_, _*_, _%_, _≤_, _<_}
 use mathlib.Core.Path.{_≡_, refl, sym, ap, _∙_}
 use mathlib.Core.Bool.{Bool, true, false, not}
 use mathlib.Core.List.{List, [], _∷_, _++_}
@@ -8,9 +8,8 @@ use lib.Dec.{eqb}
 use lib.ListN.{length, getD, set, take}
 use Rattle.std.proofs.shelf.Lists.{take-more, take-all, length-take-le}
 use Rattle.refinement.specs.Tasks.{put, from, old-slot, face-slot, edge-slot, new-corners}
-use Rattle.std.proofs.shelf.Tests.{ne-eqb, lt-ltb, le-ltb, not-from-true, not-from-false}
+use Rattle.std.proofs.shelf.Tests.{ne-eqb, not-from-true, not-from-false}
 use Rattle.mesh.specs.Count.{least}
-use Rattle.mesh.specs.Causes.{corner-ok}
 use Rattle.mesh.specs.Mesh.{Mesh, off-edge, start, step, walk, longest, valence}
 use Rattle.refinement.proofs.Totals.{least-is, least-none}
 use Rattle.refinement.proofs.Walks.{valence-is}
@@ -45,14 +44,6 @@ first-fault ok n i l e f = sym (least-is (λ k. not (ok k)) n i l (not-from-fals
 
 pub no-fault : (ok : ℕ → Bool) (n : ℕ) → ((k : ℕ) → k < n → ok k ≡ true) → n ≡ least (λ k. not (ok k)) n
 no-fault ok n f = sym (least-none (λ k. not (ok k)) n (λ k h. not-from-true (ok k) (f k h)))
-
-pub corner-fine : (m : Mesh) (cs : List ℕ) (n c : ℕ) → m .corners ≡ cs → m .points ≡ n → getD cs c 0 < n → corner-ok m c ≡ true
-unfolding corner-ok
-corner-fine m cs n c e f h = rw (e, f) (lt-ltb _ _ h)
-
-pub corner-bad : (m : Mesh) (cs : List ℕ) (n c : ℕ) → m .corners ≡ cs → m .points ≡ n → n ≤ getD cs c 0 → corner-ok m c ≡ false
-unfolding corner-ok
-corner-bad m cs n c e f h = rw (e, f) (le-ltb _ _ h)
 
 -- words laid side by side, one more
 put-push : (ws : List (ℕ × ℕ)) (w : ℕ × ℕ) (t : List ℕ) → put (ws ++ w ∷ []) t ≡ set (put ws t) (w .0) (w .1)

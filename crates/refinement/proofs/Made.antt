@@ -1,13 +1,13 @@
 -- What any list of tasks makes, slot by slot.
-use Prim.Native.Nat.{ℕ, zero, suc, _+_, _*_, _<_}
-use mathlib.Core.Path.{_≡_, refl, sym, ap, _∙_}
+use Prim.Native.Nat.{ℕ, suc}
+use mathlib.Core.Path.{_≡_, sym, ap, _∙_}
 use mathlib.Core.List.{List, [], _∷_}
 use mathlib.Core.Logic.{inl, inr}
 use native.Mathlib.Omega.{arith}
-use lib.ListN.{length, getD}
-use Rattle.std.specs.shelf.Lists.{All, Has}
+use lib.ListN.{getD}
+use Rattle.std.specs.shelf.Lists.{Has}
 use Rattle.std.proofs.shelf.Elements.{all-has}
-use Rattle.mesh.specs.Mesh.{Mesh, Lawful}
+use Rattle.mesh.specs.Mesh.{Mesh}
 use Rattle.refinement.specs.Laws.{Owned-once, Slot-holds, Any-list-of-tasks}
 use Rattle.refinement.specs.Tasks.{Task, Task-of, Names, corner-writes, friend-writes, mark-writes, start-writes, blank, runs, refine, Hold, Empty}
 use Rattle.refinement.proofs.Order.{counted-runs, runs-quads, runs-points, slots-owned-once, tasks-stand, tasks-wait, refined, any-order}

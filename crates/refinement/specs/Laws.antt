@@ -6,7 +6,7 @@ use mathlib.Core.Path.{_≡_}
 use lib.ListN.{length, getD}
 use Rattle.std.specs.shelf.Lists.{All, Has}
 use Rattle.mesh.specs.Causes.{First-cause, judge, mesh-of}
-use Rattle.mesh.specs.Mesh.{Mesh, Counted, Lawful, Meets, Runs-back, point, friend, mark, ends, step, walk, valence, most-quads}
+use Rattle.mesh.specs.Mesh.{Mesh, Counted, Lawful, Meets, Runs-back, point, friend, mark, step, valence, most-quads}
 use Rattle.mesh.specs.Refusals.{fine, declined}
 use Rattle.refinement.specs.Pillow.{pillow, pillow-refined, pillow-marked}
 use Rattle.refinement.specs.Tasks.{Task, Task-of, Names, corner-writes, friend-writes, mark-writes, start-writes, After, run, runs, blank, refine, level, Stands, Waits, Refined, old-slot, face-slot, edge-slot, fallen, half-at-end, half-at-beginning}

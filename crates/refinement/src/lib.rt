@@ -1,9 +1,23 @@
 // Each function's contract is a law, proved in proofs/.
 ghost use Rattle.refinement.specs.Laws.{Any-list-of-tasks, Any-order, Causes-tried-in-order, Corners-met-once, Edges-serve-once, Friends-pair, Halves-are, Judges, Levels-lawful, Marks-fall, Pillow-cases, Refined-is, Refinement-keeps-lawful, Run-again, Slots-owned-once, Step-keeps, Tables-have-shape, Tasks-stand, Tasks-wait, Valences-kept, Work-begins, Work-goes-on};
 
+// A mesh is declined for its first cause at the first place of that cause, and for no other.
+pub fn causes_tried_in_order() -> u8
+    ensures { λ _. ⌜ Causes-tried-in-order ⌝ }
+{
+    0
+}
+
 // No cause is found exactly in a lawful mesh.
 pub fn judges() -> u8
     ensures { λ _. ⌜ Judges ⌝ }
+{
+    0
+}
+
+// Four tables make a mesh of their counts exactly where they fit together.
+pub fn tables_have_shape() -> u8
+    ensures { λ _. ⌜ Tables-have-shape ⌝ }
 {
     0
 }
@@ -25,6 +39,13 @@ pub fn corners_met_once() -> u8
 // Every edge is the friend of one off-edge.
 pub fn edges_serve_once() -> u8
     ensures { λ _. ⌜ Edges-serve-once ⌝ }
+{
+    0
+}
+
+// Each off-edge has an edge for friend, run the other way, and no edge serves two.
+pub fn friends_pair() -> u8
+    ensures { λ _. ⌜ Friends-pair ⌝ }
 {
     0
 }
@@ -78,6 +99,13 @@ pub fn any_order() -> u8
     0
 }
 
+// After any list of tasks each slot holds its word if its task is in the list, and else 0; with all tasks it is the refined level.
+pub fn any_list_of_tasks() -> u8
+    ensures { λ _. ⌜ Any-list-of-tasks ⌝ }
+{
+    0
+}
+
 // A level in which every task stands is the refined one.
 pub fn refined_is() -> u8
     ensures { λ _. ⌜ Refined-is ⌝ }
@@ -113,44 +141,16 @@ pub fn marks_fall() -> u8
     0
 }
 
-// The pillow is lawful, and refined as written out.
-pub fn pillow_cases() -> u8
-    ensures { λ _. ⌜ Pillow-cases ⌝ }
-{
-    0
-}
-
-// A mesh is declined for its first cause at the first place of that cause, and for no other.
-pub fn causes_tried_in_order() -> u8
-    ensures { λ _. ⌜ Causes-tried-in-order ⌝ }
-{
-    0
-}
-
-// Four tables make a mesh of their counts exactly where they fit together.
-pub fn tables_have_shape() -> u8
-    ensures { λ _. ⌜ Tables-have-shape ⌝ }
-{
-    0
-}
-
-// Each off-edge has an edge for friend, run the other way, and no edge serves two.
-pub fn friends_pair() -> u8
-    ensures { λ _. ⌜ Friends-pair ⌝ }
-{
-    0
-}
-
-// After any list of tasks each slot holds its word if its task is in the list, and else 0; with all tasks it is the refined level.
-pub fn any_list_of_tasks() -> u8
-    ensures { λ _. ⌜ Any-list-of-tasks ⌝ }
-{
-    0
-}
-
 // Each new edge that is not made inside a quad is a half of exactly one edge.
 pub fn halves_are() -> u8
     ensures { λ _. ⌜ Halves-are ⌝ }
+{
+    0
+}
+
+// The pillow is lawful, and refined as written out.
+pub fn pillow_cases() -> u8
+    ensures { λ _. ⌜ Pillow-cases ⌝ }
 {
     0
 }
