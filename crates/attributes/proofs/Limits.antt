@@ -14,12 +14,13 @@ use Rattle.std.proofs.shelf.Signed.{toZ-ofZ}
 use Rattle.std.specs.declared.result.Result.the-variants.{Ok, Err}
 use Rattle.kinds.specs.Parts.{Each, most-weight, total}
 use Rattle.kinds.proofs.Parts.{each-weaker}
-use Rattle.attributes.specs.Coordinates.{Between, Limited, Span, checked, judged, mean, at, same-coordinates, verdict-of}
+use Rattle.attributes.specs.Coordinates.{Between, Span, checked, judged, mean, at, same-coordinates, verdict-of}
+use Rattle.attributes.specs.Limit.{Limited, farthest}
 use Rattle.attributes.specs.Nearest.{nearest-above, nearest-below}
 use Rattle.attributes.specs.Sums.{weighted, weighted-above, weighted-below, weighted-push}
 use Rattle.attributes.specs.declared.coordinates.Coordinates.{Coordinates}
 
-pub product-small : (w : ℕ) (a : ℤ) → natAbs a ≤ 16777216 → natAbs (pos w *ℤ a) ≤ 16777216 * w
+pub product-small : (w : ℕ) (a : ℤ) → Limited a → natAbs (pos w *ℤ a) ≤ farthest * w
 product-small w (pos n) h = omega (arith, mul-le-mul-left w h)
 product-small w (negsuc n) h = omega (arith, ints, abs-is (pos w *ℤ negsuc n), mul-le-mul-left w h)
 
@@ -51,19 +52,19 @@ module _ (x y z : ℤ) where
 
   pub checked-ok : (hx : Limited x) (hy : Limited y) (hz : Limited z) → checked x y z ≡ Ok (at x y z hx hy hz)
   unfolding checked
-  checked-ok = judged-ok (decLe (natAbs x) 16777216) (decLe (natAbs y) 16777216) (decLe (natAbs z) 16777216)
+  checked-ok = judged-ok (decLe (natAbs x) farthest) (decLe (natAbs y) farthest) (decLe (natAbs z) farthest)
 
   pub checked-x : (Limited x → ⊥) → checked x y z ≡ Err 0
   unfolding checked
-  checked-x = judged-x (decLe (natAbs x) 16777216) (decLe (natAbs y) 16777216) (decLe (natAbs z) 16777216)
+  checked-x = judged-x (decLe (natAbs x) farthest) (decLe (natAbs y) farthest) (decLe (natAbs z) farthest)
 
   pub checked-y : Limited x → (Limited y → ⊥) → checked x y z ≡ Err 1
   unfolding checked
-  checked-y = judged-y (decLe (natAbs x) 16777216) (decLe (natAbs y) 16777216) (decLe (natAbs z) 16777216)
+  checked-y = judged-y (decLe (natAbs x) farthest) (decLe (natAbs y) farthest) (decLe (natAbs z) farthest)
 
   pub checked-z : Limited x → Limited y → (Limited z → ⊥) → checked x y z ≡ Err 2
   unfolding checked
-  checked-z = judged-z (decLe (natAbs x) 16777216) (decLe (natAbs y) 16777216) (decLe (natAbs z) 16777216)
+  checked-z = judged-z (decLe (natAbs x) farthest) (decLe (natAbs y) farthest) (decLe (natAbs z) farthest)
 
 -- a row with these numbers makes them
 pub makes : (r : List ℤ) (p : Coordinates) → p .x ≡ getD r 0 (pos 0) → p .y ≡ getD r 1 (pos 0) → p .z ≡ getD r 2 (pos 0) → Ok p ≡ verdict-of r
@@ -77,7 +78,7 @@ mean-between f s ps some each = (
 )
 
 -- ---- one part more in the sum of a coordinate
-pub sum-fits : (s : ℤ) (had : ℕ) → had ≤ most-weight → natAbs s ≤ 16777216 * had → SFits w64 s
+pub sum-fits : (s : ℤ) (had : ℕ) → had ≤ most-weight → natAbs s ≤ farthest * had → SFits w64 s
 sum-fits s had few h = omega (arith, ints)
 
 pub fits : (a : ℤ) → Limited a → SFits w32 a
@@ -88,8 +89,8 @@ pub sum-next : (f : Coordinates → ℤ) (ps : List (Coordinates × ℕ)) (p : C
 sum-next f ps p w r s fr fs fp e h =
     toZ-ofZ w64 r fr ∙ e ∙ ap₂ (λ a b. a +ℤ pos w *ℤ b) (toZ-ofZ w64 s fs ∙ h) (toZ-ofZ w32 (f p) fp) ∙ sym (weighted-push f ps p w)
 
-pub sum-grows : (r s : ℤ) (had w : ℕ) → SFits w64 r → had ≤ most-weight → natAbs s ≤ 16777216 * had → natAbs r ≤ natAbs (toZ w64 (ofZ w64 s)) + 16777216 * w
-    → natAbs (toZ w64 (ofZ w64 r)) ≤ 16777216 * (had + w)
+pub sum-grows : (r s : ℤ) (had w : ℕ) → SFits w64 r → had ≤ most-weight → natAbs s ≤ farthest * had → natAbs r ≤ natAbs (toZ w64 (ofZ w64 s)) + farthest * w
+    → natAbs (toZ w64 (ofZ w64 r)) ≤ farthest * (had + w)
 sum-grows r s had w fr few h g =
     let e = ap natAbs (toZ-ofZ w64 s (sum-fits s had few h)) in
-    subst (λ t. natAbs t ≤ 16777216 * (had + w)) (sym (toZ-ofZ w64 r fr)) (omega arith)
+    subst (λ t. natAbs t ≤ farthest * (had + w)) (sym (toZ-ofZ w64 r fr)) (omega arith)

@@ -2,12 +2,12 @@
 use mathlib.Core.Path.{_≡_, sym, subst, ap, _∙_}
 use mathlib.Core.HLevel.{isProp→PathP}
 use mathlib.Core.List.{List, [], _∷_}
-use Prim.Native.Nat.{ℕ, zero, suc, _≤_, _<_}
+use Prim.Native.Nat.{ℕ, zero, suc, _<_}
 use native.Mathlib.Bridge.{le-prop}
 use native.Mathlib.Decide.{decLe}
 use native.Mathlib.Omega.{arith}
 use lib.Dec.{lit≤}
-use lib.IntN.{ℤ, pos, negsuc, natAbs, _*ℤ_}
+use lib.IntN.{ℤ, pos, negℤ, natAbs, _*ℤ_}
 use lib.ListN.{getD}
 use lib.Signed.{_≤ℤ_}
 use borrow.Author.Differences.{ints}
@@ -15,6 +15,7 @@ use Rattle.std.specs.declared.result.Result.{Result}
 use Rattle.std.specs.declared.result.Result.the-variants.{Ok, Err}
 use Rattle.kinds.specs.Parts.{total}
 use Rattle.kinds.proofs.Parts.{each-any}
+use Rattle.attributes.specs.Limit.{Limited, farthest}
 use Rattle.attributes.specs.Nearest.{nearest, nearest-none, nearest-above, nearest-below}
 use Rattle.attributes.specs.Sums.{weighted, weighted-above, weighted-below}
 use Rattle.attributes.specs.declared.coordinates.Coordinates.{Coordinates}
@@ -23,10 +24,6 @@ use Rattle.attributes.specs.declared.coordinates.CoordinatesMix.{CoordinatesMi
 -- ---- rows
 abbrev pub row-of : Coordinates → List ℤ
 row-of p = p .x ∷ (p .y ∷ (p .z ∷ []))
-
--- not past the limit, either way
-abbrev pub Limited : ℤ → Type 0
-Limited c = natAbs c ≤ 16777216
 
 abbrev pub at : (x y z : ℤ) → Limited x → Limited y → Limited z → Coordinates
 at x y z hx hy hz = record { x = x; y = y; z = z; xok = hx; yok = hy; zok = hz }
@@ -39,7 +36,7 @@ judged x y z (yes hx) (yes hy) (no _) = Err 2
 judged x y z (yes hx) (yes hy) (yes hz) = Ok (at x y z hx hy hz)
 
 unfoldable pub checked : ℤ → ℤ → ℤ → Result Coordinates ℕ
-checked x y z = judged x y z (decLe (natAbs x) 16777216) (decLe (natAbs y) 16777216) (decLe (natAbs z) 16777216)
+checked x y z = judged x y z (decLe (natAbs x) farthest) (decLe (natAbs y) farthest) (decLe (natAbs z) farthest)
 
 abbrev pub verdict-of : List ℤ → Result Coordinates ℕ
 verdict-of r = checked (getD r 0 (pos 0)) (getD r 1 (pos 0)) (getD r 2 (pos 0))
@@ -66,22 +63,22 @@ abbrev pub mean : (Coordinates → ℤ) → List (Coordinates × ℕ) → ℤ
 mean f ps = nearest (weighted f ps) (total ps)
 
 -- a quotient is not past the limit where no part is
-pub quotient-limited : (s : ℤ) (w : ℕ) → (pos w *ℤ negsuc 16777215) ≤ℤ s → s ≤ℤ (pos w *ℤ pos 16777216) → Limited (nearest s w)
+pub quotient-limited : (s : ℤ) (w : ℕ) → (pos w *ℤ negℤ (pos farthest)) ≤ℤ s → s ≤ℤ (pos w *ℤ pos farthest) → Limited (nearest s w)
 quotient-limited s zero a b =
     let e : s ≡ pos 0 = omega (arith, ints) in subst Limited (sym (ap (λ t. nearest t 0) e ∙ nearest-none)) (lit≤ tt)
 quotient-limited s (suc w) a b =
-    let pw : 0 < suc w = omega arith in omega (arith, ints, nearest-above s (negsuc 16777215) (suc w) pw a, nearest-below s (pos 16777216) (suc w) pw b)
+    let pw : 0 < suc w = omega arith in omega (arith, ints, nearest-above s (negℤ (pos farthest)) (suc w) pw a, nearest-below s (pos farthest) (suc w) pw b)
 
 pub mean-limited : (f : Coordinates → ℤ) → ((p : Coordinates) → Limited (f p)) → (ps : List (Coordinates × ℕ)) → Limited (mean f ps)
 mean-limited f h ps =
     quotient-limited (weighted f ps) (total ps)
-    (weighted-above f (negsuc 16777215) ps (each-any _ (λ p. low p (h p)) ps))
-    (weighted-below f (pos 16777216) ps (each-any _ (λ p. high p (h p)) ps))
+    (weighted-above f (negℤ (pos farthest)) ps (each-any _ (λ p. low p (h p)) ps))
+    (weighted-below f (pos farthest) ps (each-any _ (λ p. high p (h p)) ps))
   where
-    low : (p : Coordinates) → Limited (f p) → negsuc 16777215 ≤ℤ f p
+    low : (p : Coordinates) → Limited (f p) → negℤ (pos farthest) ≤ℤ f p
     low p k = omega (arith, ints)
 
-    high : (p : Coordinates) → Limited (f p) → f p ≤ℤ pos 16777216
+    high : (p : Coordinates) → Limited (f p) → f p ≤ℤ pos farthest
     high p k = omega (arith, ints)
 
 abbrev pub blend-of : List (Coordinates × ℕ) → Coordinates

@@ -1,3 +1,4 @@
+pub mod Limit
 pub mod Nearest
 pub mod Sums
 pub mod Coordinates

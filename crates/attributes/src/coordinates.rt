@@ -4,6 +4,7 @@
 ghost use Prim.Native.Nat.{_*_, _≤_};
 ghost use lib.IntN.{natAbs};
 ghost use Rattle.kinds.specs.Parts.{most-weight};
+ghost use Rattle.attributes.specs.Limit.{Limited, farthest};
 
 pub mod blend;
 
@@ -13,9 +14,9 @@ pub struct Coordinates {
     x: i32,
     y: i32,
     z: i32,
-    ghost xok: { natAbs x ≤ 16777216 },
-    ghost yok: { natAbs y ≤ 16777216 },
-    ghost zok: { natAbs z ≤ 16777216 },
+    ghost xok: { Limited x },
+    ghost yok: { Limited y },
+    ghost zok: { Limited z },
 }
 
 // The weighted sums of the parts so far, which stay inside 64 bits, and their weight.
@@ -26,7 +27,7 @@ pub struct CoordinatesMix {
     z: i64,
     weight: u32,
     ghost few: { weight ≤ most-weight },
-    ghost xok: { natAbs x ≤ 16777216 * weight },
-    ghost yok: { natAbs y ≤ 16777216 * weight },
-    ghost zok: { natAbs z ≤ 16777216 * weight },
+    ghost xok: { natAbs x ≤ farthest * weight },
+    ghost yok: { natAbs y ≤ farthest * weight },
+    ghost zok: { natAbs z ≤ farthest * weight },
 }

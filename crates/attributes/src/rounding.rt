@@ -3,14 +3,15 @@ ghost use mathlib.Core.Path.{_≡_};
 ghost use Prim.Native.Nat.{_*_, _≤_};
 ghost use lib.IntN.{natAbs};
 ghost use Rattle.kinds.specs.Parts.{most-weight};
+ghost use Rattle.attributes.specs.Limit.{Limited, farthest};
 ghost use Rattle.attributes.specs.Nearest.{Rounded-once, nearest};
 
 // A sum over its weight, rounded once to the nearest whole number, a half to the greater. Nothing over nothing is 0.
 pub(crate) fn rounded(sum: i64, over: u32) -> i32
     requires few { ⌜ over ≤ most-weight ⌝ }
-    requires small { ⌜ natAbs sum ≤ 16777216 * over ⌝ }
+    requires small { ⌜ natAbs sum ≤ farthest * over ⌝ }
     ensures is { λ r. ⌜ r ≡ nearest sum over ⌝ }
-    ensures limited { λ r. ⌜ natAbs r ≤ 16777216 ⌝ }
+    ensures limited { λ r. ⌜ Limited r ⌝ }
 {
     if over == 0 {
         return 0;

@@ -2,11 +2,11 @@
 use Prim.Native.Nat.{ℕ, zero, suc, _+_, _-_, _*_, _^_, _≤_, _<_}
 use mathlib.Core.List.{List, [], _∷_}
 use mathlib.Core.Logic.{inl, inr}
-use mathlib.Core.Path.{_≡_, refl, sym, ap, subst, _∙_}
+use mathlib.Core.Path.{_≡_, refl, ap, subst, _∙_}
 use native.Mathlib.Nat.{pow-suc}
 use native.Mathlib.Omega.{arith}
 use Rattle.std.specs.declared.option.Option.the-variants.{Some, None}
-use Rattle.mesh.specs.Mesh.{Mesh, Lawful, most-quads}
+use Rattle.mesh.specs.Mesh.{Mesh, Lawful}
 use Rattle.mesh.specs.Refusals.{Verdict, fine, declined}
 use Rattle.refinement.specs.Tasks.{blank, level, refine, tasks}
 use Rattle.refinement.proofs.Order.{runs-quads}
@@ -20,7 +20,7 @@ use Rattle.carried.specs.Laws.{Allowed}
 use Rattle.carried.proofs.Levels.{earlier-by}
 use Rattle.carried.proofs.Ranges.{stays}
 use Rattle.carried.proofs.Seams.{seams-nearer, seams-still-meet}
-use Rattle.promise.specs.Whole.{Reached, Kept, Every-chain-keeps-all}
+use Rattle.promise.specs.Whole.{Reached, Every-chain-keeps-all}
 
 -- ---- levels that are reached are not too large
 level-quads : (m : Mesh) (k : ℕ) → level m k .quads ≡ 4 ^ k * m .quads

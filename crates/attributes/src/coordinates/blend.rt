@@ -6,6 +6,7 @@ ghost use lib.IntN.{natAbs, pos, _*ℤ_, _+ℤ_};
 ghost use Rattle.kinds.specs.Parts.{most-weight};
 ghost use Rattle.kinds.specs.Rows.{with-fault};
 ghost use Rattle.attributes.specs.Coordinates.{Cuboid, Sum-of, blend-of, checked, inside, row-of, verdict-of};
+ghost use Rattle.attributes.specs.Limit.{Limited, farthest};
 use super::Coordinates;
 use super::CoordinatesMix;
 use crate::rounding::rounded;
@@ -21,9 +22,9 @@ const LIMIT: u32 = 16_777_216;
 fn more(sum: i64, at: i32, times: u32) -> i64
     requires few { ⌜ times ≤ most-weight ⌝ }
     requires small { ⌜ natAbs sum ≤ 2 ^ 52 ⌝ }
-    requires limited { ⌜ natAbs at ≤ 16777216 ⌝ }
+    requires limited { ⌜ Limited at ⌝ }
     ensures is { λ r. ⌜ r ≡ sum +ℤ pos times *ℤ at ⌝ }
-    ensures grows { λ r. ⌜ natAbs r ≤ natAbs sum + 16777216 * times ⌝ }
+    ensures grows { λ r. ⌜ natAbs r ≤ natAbs sum + farthest * times ⌝ }
 {
     sum + i64::from(times) * i64::from(at)
 }

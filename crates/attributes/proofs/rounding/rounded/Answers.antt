@@ -7,7 +7,8 @@ use mir.Syntax.{w32, w64}
 use mir.Val.{toZ, ofZ}
 use borrow.Author.Differences.{ints}
 use Rattle.std.specs.Numbers.{divEuclid}
-use Rattle.attributes.specs.Coordinates.{Limited, quotient-limited}
+use Rattle.attributes.specs.Coordinates.{quotient-limited}
+use Rattle.attributes.specs.Limit.{Limited}
 use Rattle.attributes.specs.Nearest.{nearest, nearest-none}
 use Rattle.attributes.proofs.rounding.rounded.Needs as need
 

@@ -8,6 +8,7 @@ use mir.Syntax.{w32, w64}
 use mir.Val.{SFits, toZ, ofZ}
 use borrow.Author.Differences.{ints}
 use Rattle.std.proofs.shelf.Signed.{toZ-ofZ}
+use Rattle.attributes.specs.Limit.{farthest}
 use Rattle.attributes.proofs.Limits.{product-small, sum-small}
 use Rattle.attributes.proofs.coordinates.blend.more.Needs as need
 
@@ -33,5 +34,5 @@ returns c =
     = subst (λ p. toZ w64 (ofZ w64 (toZ w64 (ofZ w64 (c .args .sum)) +ℤ toZ w64 (ofZ w64 p))) ≡ c .args .sum +ℤ pos (c .args .times) *ℤ c .args .at) (sym (product c)) (omega (arith, ints)) in
     record {
       is = e;
-      grows = subst (λ r. natAbs r ≤ natAbs (c .args .sum) + 16777216 * c .args .times) (sym e) (sum-small (c .args .sum) (pos (c .args .times) *ℤ c .args .at) _ _ (le-refl _) small);
+      grows = subst (λ r. natAbs r ≤ natAbs (c .args .sum) + farthest * c .args .times) (sym e) (sum-small (c .args .sum) (pos (c .args .times) *ℤ c .args .at) _ _ (le-refl _) small);
     }
