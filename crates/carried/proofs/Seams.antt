@@ -12,9 +12,9 @@ use Rattle.refinement.specs.Tasks.{halves, level, refine}
 use Rattle.refinement.proofs.Numbers.{by-quarters}
 use Rattle.refinement.proofs.Level.{next, next-even, next-begins, friend-inside, friend-at-end, friend-back}
 use Rattle.refinement.proofs.Order.{refined}
+use Rattle.kinds.specs.Likeness.{Likeness}
 use Rattle.carried.specs.Corners.{new-quads, corners, previous, centre, corners-carried, Alike, pieces}
 use Rattle.carried.specs.Laws.{Allowed, Corners-are, Seams-stay, Seams-still-meet}
-use Rattle.carried.specs.Likeness.{Likeness}
 use Rattle.carried.proofs.Levels.{earlier, earlier-by, lawful-at}
 
 ends-below : (o n : ℕ) → o < 2 * n → ends o < 4 * n

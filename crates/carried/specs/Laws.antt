@@ -1,11 +1,13 @@
 -- The laws of values that are carried along refinement.
 use Prim.Native.Nat.{ℕ, suc, _+_, _*_, _^_, _≤_, _<_}
+use mathlib.Core.Bool.{Bool, true}
 use mathlib.Core.List.{List}
 use mathlib.Core.Path.{_≡_}
 use lib.ListN.{length}
 use Rattle.std.specs.shelf.Lists.{All}
 use Rattle.mesh.specs.Mesh.{Mesh, Lawful, most-quads}
 use Rattle.refinement.specs.Tasks.{level}
+use Rattle.kinds.specs.Likeness.{Likeness}
 use Rattle.kinds.specs.Parts.{most-weight, taken, total}
 use Rattle.carried.specs.Blends.{face, edge, smooth-weight, moved, marked, parts, values, Blends, carried}
 use Rattle.carried.specs.Corners.{corners, Middles, corners-carried, Alike, pieces}
@@ -79,3 +81,8 @@ Seams-stay {V} like middle m Near = (j : ℕ) (xs : List V) → length xs ≡ 4 
 -- two sides agree where their values are equal
 abbrev pub Seams-still-meet : {V : Type 0} → (V → V → V) → Type 0
 Seams-still-meet middle = (m : Mesh) → Lawful m → Seams-stay _≡_ middle m (Allowed m)
+
+-- the same by every test of two values that is a likeness
+abbrev pub Seams-alike-by-test : {V : Type 0} → (V → V → V) → Type 0
+Seams-alike-by-test {V} middle =
+    (test : V → V → Bool) → Likeness (λ a b. test a b ≡ true) middle → (m : Mesh) → Lawful m → Seams-stay (λ a b. test a b ≡ true) middle m (Allowed m)

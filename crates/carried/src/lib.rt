@@ -1,7 +1,6 @@
 // Values that are carried along refinement: what they are, and what stays true of them, for every kind.
 // Each function's contract is a law, proved in proofs/.
-ghost use Rattle.carried.specs.Likeness.{Seams-alike-by-test};
-ghost use Rattle.carried.specs.Laws.{Corners-are, Parts-fit, Seams-still-meet, Values-are, Values-stay-in-range};
+ghost use Rattle.carried.specs.Laws.{Corners-are, Parts-fit, Seams-alike-by-test, Seams-still-meet, Values-are, Values-stay-in-range};
 use kinds::corner::CornerKind;
 use kinds::value::ValueKind;
 
