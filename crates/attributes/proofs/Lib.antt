@@ -2,3 +2,5 @@ mod Limits
 mod Unions
 mod Tested
 mod Pairs
+mod Fractions
+mod Equals

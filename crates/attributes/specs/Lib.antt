@@ -7,3 +7,4 @@ pub mod Halfway
 pub mod Rounding
 pub mod Textures
 pub mod Colours
+pub mod Equal

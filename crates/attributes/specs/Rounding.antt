@@ -123,7 +123,7 @@ sum-within s a t b c C p q =
     either 131072 (Bool·beq s t) _ _ (r s (a + b) (omega arith))
     (either 131072 (ltb a b) _ _ (r t (b - a) (omega arith)) (r (s && ltb b a) (a - b) (omega arith)))
 
-add-within : (x y : Float) → T (lawful x) → T (lawful y) → T (within 131072 (add binary32 x y))
+pub add-within : (x y : Float) → T (lawful x) → T (lawful y) → T (within 131072 (add binary32 x y))
 unfolding add
 add-within nan y p q = absurd p
 add-within (inf s) y p q = absurd p
@@ -134,7 +134,7 @@ add-within (fin s m e) (fin t n d) p q =
     (le-trans (mul-le-mul-right (down d) (leb→le (m * up e) (65536 * down e) p)) (le-of-eq (mul-assoc 65536 (down e) (down d))))
     (le-trans (mul-le-mul-right (down e) (leb→le (n * up d) (65536 * down d) q)) (le-of-eq (mul-assoc 65536 (down d) (down e) ∙ ap (λ (c : ℕ). 65536 * c) (mul-comm (down d) (down e)))))
 
-half-within : (x : Float) → T (within 131072 x) → T (lawful (mul binary32 x half))
+pub half-within : (x : Float) → T (within 131072 x) → T (lawful (mul binary32 x half))
 unfolding mul
 half-within nan p = absurd p
 half-within (inf s) p = absurd p

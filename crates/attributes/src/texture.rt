@@ -5,7 +5,7 @@ ghost use Rattle.attributes.specs.Halfway.{lawful};
 
 pub mod middle;
 
-#[derive(Clone, Copy)]
+#[derive(Clone, Copy, PartialEq, Debug)]
 pub struct Texture {
     u: f32,
     v: f32,

@@ -1,5 +1,6 @@
 -- The whole promise, from the promise of the mesh and the laws of carried values.
 use Prim.Native.Nat.{ℕ, zero, suc, _+_, _-_, _*_, _^_, _≤_, _<_}
+use mathlib.Core.Bool.{true}
 use mathlib.Core.List.{List, [], _∷_}
 use mathlib.Core.Logic.{inl, inr}
 use mathlib.Core.Path.{_≡_, refl, ap, subst, _∙_}
@@ -19,7 +20,7 @@ use Rattle.carried.specs.Blends.{carried, values}
 use Rattle.carried.specs.Laws.{Allowed}
 use Rattle.carried.proofs.Levels.{earlier-by}
 use Rattle.carried.proofs.Ranges.{stays}
-use Rattle.carried.proofs.Seams.{seams-nearer, seams-still-meet}
+use Rattle.carried.proofs.Seams.{seams-nearer, seams-stay, seams-still-meet}
 use Rattle.promise.specs.Whole.{Reached, Every-chain-keeps-all}
 
 -- ---- levels that are reached are not too large
@@ -100,4 +101,6 @@ module _ {V R W : Type 0} (lies : R → V → Type 0) (blended : List (V × ℕ)
             let t : level m (j + i) ≡ r = ap (level m) h ∙ cc in
             ap (λ x. values blended x (carried blended m j xs i)) t;
         seams-kept = λ m e. seams-nearer _≡_ middle m (Allowed m) (Reached m (finishes done)) (near m e) (seams-still-meet middle even m (w m e));
+        likeness-kept = λ test laws m e.
+            seams-nearer (λ a b. test a b ≡ true) middle m (Allowed m) (Reached m (finishes done)) (near m e) (seams-stay (λ a b. test a b ≡ true) middle laws m (w m e));
       }

@@ -1,5 +1,6 @@
 -- What every chain of calls keeps, whole: the mesh, the values on its points, and the values on its corners.
 use Prim.Native.Nat.{ℕ, suc, _+_, _*_, _≤_}
+use mathlib.Core.Bool.{Bool, true}
 use mathlib.Core.List.{List}
 use mathlib.Core.Logic.{_⊎_}
 use mathlib.Core.Path.{_≡_}
@@ -9,6 +10,7 @@ use Rattle.refinement.specs.Tasks.{level}
 use Rattle.chain.specs.Calls.{Call, State, run}
 use Rattle.chain.specs.History.{latest-mesh, finishes, carried-out}
 use Rattle.chain.specs.Promise.{Promise}
+use Rattle.kinds.specs.Likeness.{Likeness}
 use Rattle.carried.specs.Blends.{carried, values}
 use Rattle.carried.specs.Laws.{Seams-stay, Values-stay}
 
@@ -27,6 +29,9 @@ pub record Kept {V R W : Type 0} (lies : R → V → Type 0) (blended : List (V 
       carried blended m j xs (suc i) ≡ values blended r (carried blended m j xs i)
   -- Seams that met still meet: the pieces of an edge whose sides agree agree, and so do the edges made inside a quad and their pieces.
   pub seams-kept : (m : Mesh) → latest-mesh done ≡ Some m → Seams-stay _≡_ middle m (Reached m (finishes done))
+  -- The same by every test of two values that is a likeness, as one by which 0 and -0 are equal.
+  pub likeness-kept : (test : W → W → Bool) → Likeness (λ a b. test a b ≡ true) middle →
+      (m : Mesh) → latest-mesh done ≡ Some m → Seams-stay (λ a b. test a b ≡ true) middle m (Reached m (finishes done))
 
 -- It holds after every list of calls, on a bench made with any number of words and any mark number.
 abbrev pub Every-chain-keeps-all : {V R W : Type 0} → (R → V → Type 0) → (List (V × ℕ) → V) → (W → W → W) → Type 0

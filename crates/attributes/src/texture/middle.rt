@@ -1,6 +1,7 @@
 // Texture pairs as a corner kind.
 ghost use mathlib.Core.Path.{_≡_};
 ghost use Rattle.kinds.specs.Rows.{with-fault};
+ghost use Rattle.attributes.specs.Equal.{Equal-is-a-likeness};
 ghost use Rattle.attributes.specs.Halfway.{halfway-of, lawful};
 ghost use Rattle.attributes.specs.Textures.{checked, middle-of, row-of, verdict-of};
 use super::Texture;
@@ -64,4 +65,11 @@ pub impl CornerKind for Texture as TextureCorner {
             v: halfway(self.v, other.v),
         }
     }
+}
+
+// Where `==` finds pairs equal, 0 and -0 too, it finds their middles equal.
+pub fn equal_is_a_likeness() -> u8
+    ensures { λ _. ⌜ Equal-is-a-likeness ⌝ }
+{
+    0
 }
