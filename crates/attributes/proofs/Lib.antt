@@ -1,0 +1,6 @@
+mod Limits
+mod Unions
+mod Tested
+mod Pairs
+mod Fractions
+mod Equals

@@ -1,0 +1,10 @@
+pub mod Limit
+pub mod Nearest
+pub mod Sums
+pub mod Coordinates
+pub mod Influences
+pub mod Halfway
+pub mod Rounding
+pub mod Textures
+pub mod Colours
+pub mod Equal

@@ -1,0 +1,4 @@
+pub mod Levels
+pub mod Weights
+pub mod Ranges
+pub mod Seams

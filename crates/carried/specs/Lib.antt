@@ -1,0 +1,3 @@
+pub mod Blends
+pub mod Corners
+pub mod Laws
