@@ -22,7 +22,7 @@ fn refuse(rt: &LibcRuntime, fault: Fault) -> Result<(), AnyError> {
     let number = fault.number();
     let place = fault.place();
     println!(rt, "ff {number:x} {place:x}")?;
-    println!(rt, "Refused. {fault}.")?;
+    println!(rt, "Refused with {fault}.")?;
     Ok(())
 }
 

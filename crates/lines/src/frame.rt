@@ -76,7 +76,7 @@ fn read_words<'a>(s: &'a [u8], out: &mut [u32]) -> Option<&'a [u8]>
 }
 
 // A line of the kind a, b with as many words as `out` has places, and the bytes after it; None where no such line is there.
-pub fn read_line<'a>(s: &'a [u8], a: u8, b: u8, out: &mut [u32]) -> Option<&'a [u8]>
+pub(crate) fn read_line<'a>(s: &'a [u8], a: u8, b: u8, out: &mut [u32]) -> Option<&'a [u8]>
     ensures { λ r. ⌜ BySome r (line a b (length (now (out .entry))) (now (s .entry)) ≡ None) (λ rest. (line a b (length (now (out .entry))) (now (s .entry)) ≡ Some (now (out .exit), now rest)) × All Word-sized (now (out .exit))) ⌝ }
 {
     let [first, second, words @ ..] = s else {

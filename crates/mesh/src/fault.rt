@@ -150,6 +150,6 @@ pub impl fmt::Display for Fault as FaultDisplay {
         let number = self.number();
         let place = self.place();
         let meaning = self.meaning();
-        write!(f, "refusal {number}, place {place}: {meaning}")
+        write!(f, "number {number}, place {place}: {meaning}")
     }
 }
