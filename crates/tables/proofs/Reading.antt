@@ -3,11 +3,11 @@ use Prim.Native.Nat.{ℕ, suc, _+_, _*_, _%_, _<_, _≤_}
 use mathlib.Core.Path.{_≡_, refl, sym, ap, _∙_}
 use native.Mathlib.Omega.{arith}
 use Rattle.mesh.specs.Count.{total}
-use Rattle.mesh.specs.Mesh.{Mesh, Runs-back, point, friend, off-edge, step, most-quads}
+use Rattle.mesh.specs.Mesh.{Mesh, Sound, Runs-back, point, friend, off-edge, step, most-quads}
 use Rattle.refinement.proofs.Steps.{off-edge-below}
-use Rattle.tables.specs.Edges.{Reads, Record-of}
+use Rattle.tables.specs.Edges.{Reads, Record-of, Steps}
 use Rattle.tables.specs.declared.edge.EdgeRecord.{EdgeRecord}
-use Rattle.tables.specs.Passed.{Worded}
+use Rattle.tables.specs.Passed.{Sized, Worded}
 
 pub all-read : (m : Mesh) → Worded m → (o : ℕ) → o < 2 * m .quads → Reads m o
 all-read m w o h =
@@ -17,6 +17,21 @@ all-read m w o h =
 
 pub corner-reads : (m : Mesh) → Worded m → (c o : ℕ) → c < 4 * m .quads → o ≡ off-edge c → Reads m o
 corner-reads m w c o h e = let l = off-edge-below c (m .quads) h in all-read m w o (omega arith)
+
+pub all-step : (m : Mesh) → Worded m → (c : ℕ) → c < 4 * m .quads → Steps m c
+all-step m w c h = record {
+  reads = corner-reads m w c (off-edge c) h refl;
+  quads-few = w .sized .quads-few;
+  an-edge = w .friends-are-edges (off-edge c) (off-edge-below c (m .quads) h);
+}
+
+-- a sound mesh has all that the tests up to 6 tell
+pub sound-worded : (m : Mesh) → Sound m → Worded m
+sound-worded m s = record {
+  sized = record { counted = s .counted; quads-few = s .quads-few; points-few = s .points-few };
+  friends-are-edges = s .friends-are-edges;
+  marks-are-words = s .marks-are-words;
+}
 
 -- a step by the friend g of the off-edge o
 pub step-by : (m : Mesh) (c o g : ℕ) → o ≡ off-edge c → g ≡ friend m o → 2 * g + c % 2 ≡ step m c

@@ -1,7 +1,7 @@
-// From a corner to the off-edge at it, and back to the off-edge's two corners.
+// From a corner to the off-edge at it, and to the other corners of its quad.
 ghost use mathlib.Core.Path.{_≡_};
-ghost use Prim.Native.Nat.{_<_};
-ghost use Rattle.mesh.specs.Mesh.{off-edge, begins, ends};
+ghost use Prim.Native.Nat.{_+_, _-_, _*_, _/_, _%_};
+ghost use Rattle.mesh.specs.Mesh.{off-edge};
 use mesh::number::Corner;
 use mesh::number::OffEdge;
 
@@ -16,4 +16,18 @@ pub fn off_edge(corner: Corner) -> OffEdge
     } else {
         OffEdge(2 * quad + 1)
     }
+}
+
+// The other corner of the off-edge at a corner.
+pub fn other_end(corner: Corner) -> Corner
+    ensures { λ r. ⌜ r .0 ≡ 4 * (corner .0 / 4) + (3 - corner .0 % 4) ⌝ }
+{
+    Corner(4 * (corner.0 / 4) + (3 - corner.0 % 4))
+}
+
+// The corner opposite a corner in its quad.
+pub fn diagonal(corner: Corner) -> Corner
+    ensures { λ r. ⌜ r .0 ≡ 4 * (corner .0 / 4) + (corner .0 + 2) % 4 ⌝ }
+{
+    Corner(4 * (corner.0 / 4) + (corner.0 % 4 + 2) % 4)
 }

@@ -1,11 +1,9 @@
 // All that the tables say of an off-edge, in one record, and a step by it.
 ghost use mathlib.Core.Path.{_≡_};
-ghost use Prim.Native.Nat.{_*_, _<_};
-ghost use Rattle.std.specs.Options.{Cases as BySome};
-ghost use Rattle.mesh.specs.Mesh.{step};
-ghost use Rattle.tables.specs.Edges.{Reads, Record-of, Steps};
+ghost use Rattle.tables.specs.Edges.{Reads, Record-of, Edge-answer, Step-answer};
 ghost use Rattle.tables.specs.Lent.{mesh};
 use crate::corner::off_edge;
+use crate::lent::MOST_QUADS;
 use crate::lent::Tables;
 use mesh::mark::Mark;
 use mesh::mark::MarkDebug;
@@ -19,9 +17,6 @@ use mesh::number::Point;
 use mesh::number::PointDebug;
 use mesh::number::PointPartialEq;
 use std::fmt;
-
-// The most quads that a mesh has.
-const MOST_QUADS: usize = 1048576;
 
 // Where an off-edge begins and ends, the edge that runs the other way, and its mark.
 #[derive(Clone, Copy, PartialEq, Eq, Debug)]
@@ -56,7 +51,7 @@ impl<'a> Tables<'a> {
 
     // The record of an off-edge; None where a table has no word for it, or its mark word stands for no mark.
     pub fn edge(&self, off: OffEdge) -> Option<EdgeRecord>
-        ensures { λ r. ⌜ BySome r (Reads (mesh (now (self .entry))) (off .0) → ⊥) (λ e. Reads (mesh (now (self .entry))) (off .0) × Record-of (mesh (now (self .entry))) (off .0) e) ⌝ }
+        ensures { λ r. ⌜ Edge-answer (mesh (now (self .entry))) (off .0) r ⌝ }
     {
         let o = off.0 as usize;
         if o / 2 >= self.quads() || o >= self.friends.len() || o >= self.marks.len() {
@@ -70,7 +65,7 @@ impl<'a> Tables<'a> {
 
     // The corner a step on, along the off-edge at this one to its friend; None where that is no corner of a mesh.
     pub fn step(&self, corner: Corner) -> Option<Corner>
-        ensures { λ r. ⌜ BySome r (Steps (mesh (now (self .entry))) (corner .0) → ⊥) (λ d. Steps (mesh (now (self .entry))) (corner .0) × (d .0 ≡ step (mesh (now (self .entry))) (corner .0))) ⌝ }
+        ensures { λ r. ⌜ Step-answer (mesh (now (self .entry))) (corner .0) r ⌝ }
     {
         let record = self.edge(off_edge(corner))?;
         let quads = self.quads();

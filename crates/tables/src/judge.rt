@@ -10,16 +10,14 @@ ghost use Rattle.mesh.specs.Refusals.{told, fine};
 ghost use Rattle.tables.specs.Lent.{mesh};
 ghost use Rattle.tables.specs.Passed.{Sized, Worded, Started};
 use crate::corner::off_edge;
+use crate::lent::FEWEST_QUADS;
+use crate::lent::MOST_QUADS;
 use crate::lent::Tables;
 use mesh::fault::Fault;
 use mesh::mark::Mark;
 use mesh::number::Corner;
 use mesh::number::OffEdge;
 use mesh::number::Point;
-
-const FEWEST_QUADS: usize = 2;
-
-const MOST_QUADS: usize = 1048576;
 
 // A walk has at least and at most so many steps.
 const SHORTEST: u32 = 2;

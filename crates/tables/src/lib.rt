@@ -3,3 +3,4 @@ pub mod corner;
 pub mod edge;
 pub mod judge;
 pub mod lent;
+pub mod slot;

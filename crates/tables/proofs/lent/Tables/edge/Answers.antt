@@ -33,13 +33,4 @@ record-requires c κs = record {
 }
 
 pub returns : need.returns
-unfolding mesh-of
-returns c = (
-  record {
-    in-corners = omega arith;
-    in-friends = omega arith;
-    in-marks = omega arith;
-    a-mark = mark-word (c .from-word .result) _ (c .from-word .ensures) (c .if-is-none .ensures tt);
-  },
-  c .record .ensures,
-)
+returns c = c .record .ensures

@@ -33,6 +33,7 @@ unfolding mesh-of begins ends
 returns c =
     let w = mark (mesh (c .args .self .now)) (c .args .off .0) in
     record {
+      reads = c .pre;
       begin-is = refl;
       end-is = refl;
       friend-is = refl;

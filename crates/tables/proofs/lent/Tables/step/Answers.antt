@@ -9,9 +9,9 @@ pub returns : need.returns
 returns c =
     let e = c .in-Continue-record .ensures tt in
     let o = c .off-edge .ensures in
-    let f = e .1 .friend-is in
+    let f = e .friend-is in
     let m = mesh (c .args .self .now) in
     let b : friend m (c .off-edge .result .0) < 2 * m .quads = omega arith in (
-      record { reads = rw o at (e .0); quads-few = omega arith; an-edge = rw o at b },
+      record { reads = rw o at (e .reads); quads-few = omega arith; an-edge = rw o at b },
       step-by _ _ _ _ o f,
     )
