@@ -1,41 +1,55 @@
 -- The writes of a task, block by block.
-use Prim.Native.Nat.{ℕ, _+_, _*_, _≤_, _<_}
+use Prim.Native.Nat.{ℕ, suc, _+_, _*_, _≤_, _<_}
 use mathlib.Core.List.{List, [], _∷_}
 use mathlib.Core.Logic.{_⊎_, inl, inr}
 use mathlib.Core.Path.{_≡_, refl, sym, ap, _∙_}
 use native.Mathlib.Omega.{arith}
 use lib.ListN.{length, getD, set}
 use Rattle.std.specs.shelf.Lists.{All}
-use Rattle.std.proofs.shelf.Elements.{all-weaker}
-use Rattle.mesh.specs.Mesh.{Mesh, Lawful}
-use Rattle.refinement.specs.Tasks.{Task, quad-task, point-task, Task-of, number, corner-writes, friend-writes, mark-writes, start-writes, put, run}
-use Rattle.refinement.proofs.Puts.{Agree, length-put}
-use Rattle.refinement.proofs.Words.{corner-word, corner-owner, corners-agree, side-owner, friend-word, friends-agree, mark-word, marks-agree, start-word, start-owner, starts-agree}
-use Rattle.layout.specs.Layout.{block, level-at, standing-in, work-in, shifted, after-task}
+use Rattle.std.proofs.shelf.Ways.{tells}
+use Rattle.mesh.specs.Mesh.{Mesh}
+use Rattle.refinement.specs.Tasks.{Task, quad-task, point-task, Task-of, number, corner-writes, friend-writes, mark-writes, start-writes, from, new-corners, old-slot, face-slot, edge-slot, put, run}
+use Rattle.refinement.proofs.Puts.{length-put}
+use Rattle.layout.specs.Layout.{block, level-at, standing-in, work-in, shifted, after-task, In-range}
 use Rattle.layout.specs.Laws.{Task-writes, Tasks-write}
 use Rattle.layout.proofs.Blocks.{Below, writes-inside, writes-outside}
 
 -- the slots of a task are below the count of its table
-agree-below : (word owner : ℕ → ℕ) (n k : ℕ) (ps : List (ℕ × ℕ)) → Agree word owner n k ps → Below n ps
-agree-below word owner n k [] a = tt
-agree-below word owner n k (p ∷ ps) a = (a .0 .1, agree-below word owner n k ps (a .1))
+from-below : (n a k : ℕ) (xs : List ℕ) → a + (k + length xs) ≤ n → Below n (from a k xs)
+from-below n a k [] h = tt
+from-below n a k (x ∷ xs) h = (omega arith, from-below n a (suc k) xs (omega arith))
 
-below-more : (n k : ℕ) (ps : List (ℕ × ℕ)) → n ≤ k → Below n ps → Below k ps
-below-more n k [] h b = tt
-below-more n k (p ∷ ps) h b = (omega (arith, b .0), below-more n k ps h (b .1))
+old-below : (m : Mesh) (v : ℕ) → v < m .points → m .quads ≤ m .points → old-slot m v < m .points + 3 * m .quads
+unfolding old-slot
+old-below m v h k = grind (arith, tells)
 
-module _ (m : Mesh) (w : Lawful m) (t : Task) (h : Task-of m t) where
-  pub corners-below : Below (4 * (4 * m .quads)) (corner-writes m t)
-  corners-below = below-more (16 * m .quads) _ _ (omega arith) (agree-below (corner-word m w) (corner-owner m w) (16 * m .quads) (number m t) (corner-writes m t) (corners-agree m w t h))
+module _ (m : Mesh) (r : In-range m) where
+  corners-below : (t : Task) → Task-of m t → Below (4 * (4 * m .quads)) (corner-writes m t)
+  corners-below (quad-task q) h = from-below _ (16 * q) 0 (new-corners m q) (omega arith)
+  corners-below (point-task v) h = tt
 
-  pub friends-below : Below (2 * (4 * m .quads)) (friend-writes m t)
-  friends-below = below-more (8 * m .quads) _ _ (omega arith) (agree-below (friend-word m w) (side-owner m w) (8 * m .quads) (number m t) (friend-writes m t) (friends-agree m w t h))
+  friends-below : (t : Task) → Task-of m t → Below (2 * (4 * m .quads)) (friend-writes m t)
+  friends-below (quad-task q) h =
+      let g0 = r .friends-are-edges (2 * q) (omega arith) in
+      let g1 = r .friends-are-edges (2 * q + 1) (omega arith) in
+      (omega arith, (omega arith, (omega arith, (omega arith, (omega arith, (omega arith, (omega arith, (omega arith, tt))))))))
+  friends-below (point-task v) h = tt
 
-  pub marks-below : Below (2 * (4 * m .quads)) (mark-writes m t)
-  marks-below = below-more (8 * m .quads) _ _ (omega arith) (agree-below (mark-word m w) (side-owner m w) (8 * m .quads) (number m t) (mark-writes m t) (marks-agree m w t h))
+  marks-below : (t : Task) → Task-of m t → Below (2 * (4 * m .quads)) (mark-writes m t)
+  marks-below (quad-task q) h =
+      let g0 = r .friends-are-edges (2 * q) (omega arith) in
+      let g1 = r .friends-are-edges (2 * q + 1) (omega arith) in
+      (omega arith, (omega arith, (omega arith, (omega arith, (omega arith, (omega arith, (omega arith, (omega arith, tt))))))))
+  marks-below (point-task v) h = tt
 
-  pub starts-below : Below (m .points + 3 * m .quads) (start-writes m t)
-  starts-below = agree-below (start-word m w) (start-owner m w) (m .points + 3 * m .quads) (number m t) (start-writes m t) (starts-agree m w t h)
+  starts-below : (t : Task) → Task-of m t → Below (m .points + 3 * m .quads) (start-writes m t)
+  unfolding face-slot edge-slot
+  starts-below (quad-task q) h =
+      let p = r .points-enough in
+      let g0 = r .friends-are-edges (2 * q) (omega arith) in
+      let g1 = r .friends-are-edges (2 * q + 1) (omega arith) in
+      (omega arith, (omega arith, (omega arith, tt)))
+  starts-below (point-task v) h = (old-below m v h (r .points-enough), tt)
 
 number-below : (m : Mesh) (t : Task) → Task-of m t → number m t < m .quads + m .points
 number-below m (quad-task q) h = omega arith
@@ -116,14 +130,14 @@ module _ (F V : ℕ) (cs fs ms ss rs : List (ℕ × ℕ)) (ws : List ℕ)
 
 pub tasks-write : Tasks-write
 unfolding run put
-tasks-write F V t ws law h room =
+tasks-write F V t ws r h room =
     let m = standing-in ws F V in
     let rs : List (ℕ × ℕ) = (number m t, 1) ∷ [] in
     let br : Below (F + V) rs = (number-below m t h, tt) in
-    let bc = corners-below m law t h in
-    let bf = friends-below m law t h in
-    let bm = marks-below m law t h in
-    let bs = starts-below m law t h in
+    let bc = corners-below m r t h in
+    let bf = friends-below m r t h in
+    let bm = marks-below m r t h in
+    let bs = starts-below m r t h in
     let cs = five-before F V (corner-writes m t) (friend-writes m t) (mark-writes m t) (start-writes m t) rs ws bc bf bm bs br 0 (4 * F) (omega arith) in
     let fs = five-before F V (corner-writes m t) (friend-writes m t) (mark-writes m t) (start-writes m t) rs ws bc bf bm bs br (0 + 4 * F) (2 * F) (omega arith) in
     let ms = five-before F V (corner-writes m t) (friend-writes m t) (mark-writes m t) (start-writes m t) rs ws bc bf bm bs br (0 + 6 * F) (2 * F) (omega arith) in

@@ -3,9 +3,9 @@ use Prim.Native.Nat.{ℕ, _+_, _*_, _≤_}
 use mathlib.Core.List.{List}
 use mathlib.Core.Path.{_≡_}
 use lib.ListN.{length, set, replicate}
-use Rattle.mesh.specs.Mesh.{Mesh, Counted, Lawful}
+use Rattle.mesh.specs.Mesh.{Mesh, Counted}
 use Rattle.refinement.specs.Tasks.{Task, Task-of, number, blank, run}
-use Rattle.layout.specs.Layout.{block, standing-in, work-in, laid, after-task}
+use Rattle.layout.specs.Layout.{block, standing-in, work-in, laid, after-task, In-range}
 
 -- a task leaves the standing level, and writes its words to the level in work
 pub record Task-writes (F V : ℕ) (t : Task) (ws vs : List ℕ) : Type 0 where
@@ -16,7 +16,7 @@ pub record Task-writes (F V : ℕ) (t : Task) (ws vs : List ℕ) : Type 0 where
 
 abbrev pub Tasks-write : Type 0
 Tasks-write =
-    (F V : ℕ) (t : Task) (ws : List ℕ) → Lawful (standing-in ws F V) → Task-of (standing-in ws F V) t → 44 * F + 3 * V ≤ length ws →
+    (F V : ℕ) (t : Task) (ws : List ℕ) → In-range (standing-in ws F V) → Task-of (standing-in ws F V) t → 44 * F + 3 * V ≤ length ws →
     Task-writes F V t ws (after-task (standing-in ws F V) t ws)
 
 -- words of 0 after the standing level are a blank level in work, of which no task has run

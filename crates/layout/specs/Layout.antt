@@ -1,13 +1,13 @@
 -- Where the levels of a bench stand in its working words.
 -- The standing level, of F quads and V points, has the first 8F + V words. While a level is in work, its tables follow, which are those of a level
 -- of 4F quads and V + 3F points, and then F + V words that say which tasks have run: 44F + 3V in all. The words past these are free.
-use Prim.Native.Nat.{ℕ, _+_, _*_}
+use Prim.Native.Nat.{ℕ, _+_, _*_, _≤_, _<_}
 use mathlib.Core.List.{List, [], _∷_, _++_}
 use mathlib.Core.Path.{_≡_}
 use lib.ListN.{length, take, drop}
 use Rattle.std.specs.declared.option.Option.the-variants.{Some, None}
 use Rattle.std.specs.shelf.Lists.{All}
-use Rattle.mesh.specs.Mesh.{Mesh}
+use Rattle.mesh.specs.Mesh.{Mesh, point, friend, start}
 use Rattle.refinement.specs.Tasks.{Task, Task-of, number, corner-writes, friend-writes, mark-writes, start-writes, put, blank, runs}
 use Rattle.chain.specs.Calls.{Work, State, made}
 use Rattle.chain.specs.History.{ran-words}
@@ -62,6 +62,13 @@ after-task m t ws =
     (put (shifted (a + 6 * (4 * m .quads)) (mark-writes m t))
     (put (shifted (a + 4 * (4 * m .quads)) (friend-writes m t))
     (put (shifted a (corner-writes m t)) ws))))
+
+-- the words of a level are in range: corners have points, friends are edges, starts are corners
+pub record In-range (m : Mesh) : Type 0 where
+  pub points-enough : m .quads ≤ m .points
+  pub corners-have-points : (c : ℕ) → c < 4 * m .quads → point m c < m .points
+  pub friends-are-edges : (o : ℕ) → o < 2 * m .quads → friend m o < 2 * m .quads
+  pub starts-are-corners : (v : ℕ) → v < m .points → start m v < 4 * m .quads
 
 -- w is what some tasks of the level m have written, and tells which they are
 pub record Written (m : Mesh) (w : Work) : Type 0 where

@@ -1,0 +1,2 @@
+// The working store of a mesh refiner.
+mod words;
