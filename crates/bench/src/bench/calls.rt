@@ -1,0 +1,69 @@
+ghost use lib.ListN.{length};
+ghost use Rattle.mesh.specs.Refusals.{told};
+ghost use Rattle.chain.specs.Calls.{begin, withdraw};
+ghost use Rattle.chain.specs.Clauses.{Called, Made};
+ghost use Rattle.bench.specs.Model.{state, Bears, told-slip, Comes-back};
+
+use super::Bench;
+use super::slip::Declined;
+use super::slip::Slip;
+use crate::stage::Stage;
+use crate::words::Words;
+use mesh::fault::Fault;
+
+// No level has more quads.
+const MOST_QUADS: usize = 1048576;
+
+impl<'a> Bench<'a> {
+    // An empty bench over these words, whose slips bear this mark number.
+    pub fn new(words: &'a mut [u32], mark: u32) -> Bench<'a>
+        ensures { λ r. ⌜ Made (length (now (words .entry))) mark (state r) ⌝ }
+    {
+        Bench { words: Words { cells: words }, mark, stage: Stage::Empty, quads: 0, points: 0, left: 0 }
+    }
+
+    // Opens a level in work, whose words are all 0, and hands out the slip that closes it.
+    pub fn begin(&mut self) -> Result<Slip, Fault>
+        ensures call { λ r. ⌜ Called (state (now (self .entry))) begin (state (now (self .exit))) (told r) ⌝ }
+        ensures slip { λ r. ⌜ Bears r (now (self .entry) .mark) ⌝ }
+    {
+        match self.stage {
+            Stage::Working => Err(Fault::LevelInWork),
+            Stage::Empty => Err(Fault::NoStandingLevel),
+            Stage::Standing => {
+                let quads = self.quads as usize;
+                let points = self.points as usize;
+                if 4 * quads > MOST_QUADS {
+                    return Err(Fault::LevelTooLarge);
+                }
+                if self.words.cells.len() < 44 * quads + 3 * points {
+                    return Err(Fault::TooFewWords);
+                }
+                self.words.blank(8 * quads + points, 36 * quads + 2 * points);
+                self.left = self.quads + self.points;
+                self.stage = Stage::Working;
+                Ok(Slip::new(self.mark))
+            }
+        }
+    }
+
+    // Drops the level in work.
+    pub fn withdraw(&mut self, slip: Slip) -> Result<(), Declined>
+        ensures call { λ r. ⌜ Called (state (now (self .entry))) (withdraw (slip .mark)) (state (now (self .exit))) (told-slip r) ⌝ }
+        ensures slip { λ r. ⌜ Comes-back r (slip .mark) ⌝ }
+    {
+        match self.stage {
+            Stage::Empty => Err(Declined { fault: Fault::NoStandingLevel, slip }),
+            Stage::Standing => Err(Declined { fault: Fault::NoLevelInWork, slip }),
+            Stage::Working => {
+                if slip.mark() != self.mark {
+                    return Err(Declined { fault: Fault::OtherSlip, slip });
+                }
+                slip.spend();
+                self.left = 0;
+                self.stage = Stage::Standing;
+                Ok(())
+            }
+        }
+    }
+}
