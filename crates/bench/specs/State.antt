@@ -46,5 +46,5 @@ Works Standing F V ws = Unit {0}
 Works Working F V ws = Written (standing-in ws F V) (work-in ws F V)
 
 -- the count of tasks left is true
-abbrev pub Count : Stage → ℕ → ℕ → ℕ → List ℕ → Type 0
-Count s F V n ws = n ≡ left (bench-at s 0 F V ws)
+abbrev pub Count : Stage → ℕ → ℕ → ℕ → ℕ → List ℕ → Type 0
+Count s mark F V n ws = n ≡ left (bench-at s mark F V ws)

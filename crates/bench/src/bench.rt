@@ -22,5 +22,5 @@ pub struct Bench<'a> {
     ghost room: { Room stage quads points (held (words .cells)) },
     ghost lawful: { ∥ Stands stage quads points (held (words .cells)) ∥₁ },
     ghost written: { ∥ Works stage quads points (held (words .cells)) ∥₁ },
-    ghost count: { Count stage quads points left (held (words .cells)) },
+    ghost count: { Count stage mark quads points left (held (words .cells)) },
 }

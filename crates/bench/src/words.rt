@@ -5,6 +5,7 @@ ghost use mathlib.Core.List.{[], _∷_};
 ghost use lib.Dec.{eqb, leb};
 ghost use lib.ListN.{length, getD, set, replicate};
 ghost use denote.Ref.{now as held};
+ghost use Rattle.std.specs.shelf.Lists.{countBy};
 ghost use Rattle.mesh.specs.Count.{least};
 ghost use Rattle.mesh.specs.Mesh.{friend as friend-of};
 ghost use Rattle.refinement.specs.Tasks.{put, from as side-by-side, new-corners, edge-slot, fallen, quad-task, point-task};
@@ -217,6 +218,19 @@ impl<'a> Words<'a> {
         ensures { λ r. ⌜ r ≡ eqb (getD (block (held (now (self .entry) .cells)) (43 * quads + 2 * points) (quads + points)) task 0) 0 ⌝ }
     {
         self.cells[43 * quads + 2 * points + task] == 0
+    }
+
+    // How many tasks are left once this one has run.
+    pub fn left_after(&self, quads: usize, points: usize, task: usize, left: u32) -> u32
+        requires { ⌜ 44 * quads + 3 * points ≤ length (held (now self .cells)) ⌝ ∗ ⌜ task < quads + points ⌝ }
+        requires { ⌜ left ≡ countBy (λ w. eqb w 0) (block (held (now self .cells)) (43 * quads + 2 * points) (quads + points)) ⌝ }
+        ensures { λ r. ⌜ r ≡ countBy (λ w. eqb w 0) (set (block (held (now (self .entry) .cells)) (43 * quads + 2 * points) (quads + points)) task 1) ⌝ }
+    {
+        if self.waits(quads, points, task) {
+            left - 1
+        } else {
+            left
+        }
     }
 
     // The lowest task that has yet to run, or the count of tasks.

@@ -30,7 +30,12 @@ mod tests {
     const TWO_CORNERS: [u32; 16] = [0, 1, 2, 3, 2, 1, 0, 3, 0, 1, 2, 3, 2, 1, 0, 3];
 
     // The number and the place of the refusal; 0 and 0 where the tables are a lawful mesh.
-    fn judged<'a>(corners: &'a [u32], friends: &'a [u32], marks: &'a [u32], starts: &'a [u32]) -> (u8, u32) {
+    fn judged<'a>(
+        corners: &'a [u32],
+        friends: &'a [u32],
+        marks: &'a [u32],
+        starts: &'a [u32],
+    ) -> (u8, u32) {
         let tables = Tables {
             corners,
             friends,
@@ -46,12 +51,18 @@ mod tests {
     #[test]
     fn the_pillow_is_lawful() -> Result<(), Fail> {
         check_eq(judged(&CORNERS, &FRIENDS, &MARKS, &STARTS), (0, 0))?;
-        check_eq(judged(&CORNERS, &FRIENDS, &[4096, 0, 65535, 1], &STARTS), (0, 0))
+        check_eq(
+            judged(&CORNERS, &FRIENDS, &[4096, 0, 65535, 1], &STARTS),
+            (0, 0),
+        )
     }
 
     #[test]
     fn lengths_must_go_together() -> Result<(), Fail> {
-        check_eq(judged(&[0, 1, 2, 3, 2, 1, 0], &FRIENDS, &MARKS, &STARTS), (1, 0))?;
+        check_eq(
+            judged(&[0, 1, 2, 3, 2, 1, 0], &FRIENDS, &MARKS, &STARTS),
+            (1, 0),
+        )?;
         check_eq(judged(&CORNERS, &[2, 3, 0], &MARKS, &STARTS), (1, 0))?;
         check_eq(judged(&CORNERS, &FRIENDS, &[0; 5], &STARTS), (1, 0))
     }
@@ -66,17 +77,32 @@ mod tests {
 
     #[test]
     fn words_must_name_something() -> Result<(), Fail> {
-        check_eq(judged(&[0, 1, 2, 3, 2, 4, 0, 4], &FRIENDS, &MARKS, &STARTS), (4, 5))?;
+        check_eq(
+            judged(&[0, 1, 2, 3, 2, 4, 0, 4], &FRIENDS, &MARKS, &STARTS),
+            (4, 5),
+        )?;
         check_eq(judged(&CORNERS, &[2, 4, 0, 1], &MARKS, &STARTS), (5, 1))?;
-        check_eq(judged(&CORNERS, &FRIENDS, &[0, 0, 4097, 0], &STARTS), (6, 2))?;
-        check_eq(judged(&CORNERS, &FRIENDS, &[0, 0, 0, 65536], &STARTS), (6, 3))
+        check_eq(
+            judged(&CORNERS, &FRIENDS, &[0, 0, 4097, 0], &STARTS),
+            (6, 2),
+        )?;
+        check_eq(
+            judged(&CORNERS, &FRIENDS, &[0, 0, 0, 65536], &STARTS),
+            (6, 3),
+        )
     }
 
     // An earlier cause at a later place comes first.
     #[test]
     fn causes_come_in_order() -> Result<(), Fail> {
-        check_eq(judged(&CORNERS, &[2, 3, 0, 4], &[5000, 0, 0, 0], &STARTS), (5, 3))?;
-        check_eq(judged(&[4, 1, 2, 3, 2, 1, 0, 3], &FRIENDS, &MARKS, &[0]), (3, 0))
+        check_eq(
+            judged(&CORNERS, &[2, 3, 0, 4], &[5000, 0, 0, 0], &STARTS),
+            (5, 3),
+        )?;
+        check_eq(
+            judged(&[4, 1, 2, 3, 2, 1, 0, 3], &FRIENDS, &MARKS, &[0]),
+            (3, 0),
+        )
     }
 
     #[test]
@@ -94,18 +120,27 @@ mod tests {
     // From corner 0 the steps go to corners 14 and 8, and between those for ever.
     #[test]
     fn walks_must_come_back() -> Result<(), Fail> {
-        check_eq(judged(&TWO_CORNERS, &[2, 7, 0, 1, 6, 7, 4, 5], &[0; 8], &STARTS), (9, 0))
+        check_eq(
+            judged(&TWO_CORNERS, &[2, 7, 0, 1, 6, 7, 4, 5], &[0; 8], &STARTS),
+            (9, 0),
+        )
     }
 
     // At point 1 the first step is back.
     #[test]
     fn walks_must_have_two_steps() -> Result<(), Fail> {
-        check_eq(judged(&[0, 1, 0, 2, 0, 1, 0, 2], &[0, 1, 2, 3], &MARKS, &[0, 1, 3]), (9, 1))
+        check_eq(
+            judged(&[0, 1, 0, 2, 0, 1, 0, 2], &[0, 1, 2, 3], &MARKS, &[0, 1, 3]),
+            (9, 1),
+        )
     }
 
     #[test]
     fn walks_must_meet_every_corner() -> Result<(), Fail> {
-        check_eq(judged(&TWO_CORNERS, &[2, 3, 0, 1, 6, 7, 4, 5], &[0; 8], &STARTS), (10, 0))
+        check_eq(
+            judged(&TWO_CORNERS, &[2, 3, 0, 1, 6, 7, 4, 5], &[0; 8], &STARTS),
+            (10, 0),
+        )
     }
 
     #[test]

@@ -1,5 +1,4 @@
 ghost use mathlib.Core.Path.{_≡_};
-
 use mesh::fault::Fault;
 
 // The right to finish or withdraw the level in work. It bears the mark number of its bench.
