@@ -12,14 +12,18 @@ use Rattle.std.specs.shelf.Lists.{countBy}
 use Rattle.std.proofs.shelf.Sums.{sumBy-cons, sumBy-set}
 use Rattle.std.proofs.shelf.Tests.{cond-true, cond-false}
 use Rattle.mesh.specs.Count.{least}
+use Rattle.mesh.specs.Causes.{judge, mesh-of}
+use Rattle.mesh.specs.Refusals.{fine}
 use Rattle.mesh.specs.Mesh.{Mesh, Lawful, most-quads}
 use Rattle.refinement.specs.Tasks.{Task, Task-of, number, blank, run, runs}
+use Rattle.refinement.proofs.Causes.{judges}
 use Rattle.refinement.proofs.Keeps.{refinement-keeps-lawful}
 use Rattle.refinement.proofs.Order.{any-order, work-goes-on}
 use Rattle.chain.specs.Calls.{Work}
 use Rattle.chain.proofs.Flags.{ran-none, ran-push, ran-all}
 use Rattle.layout.specs.Layout.{block, standing-in, work-in, laid, after-task, In-range, Written}
-use Rattle.layout.proofs.Laid.{begins-write, finishes-write}
+use Rattle.layout.specs.Laws.{four-laid, Load-writes}
+use Rattle.layout.proofs.Laid.{begins-write, finishes-write, loads-write}
 use Rattle.layout.proofs.Writes.{tasks-write}
 use Rattle.bench.specs.State.{bench-at, Few, Room, Stands, Works, Count}
 use Rattle.bench.specs.declared.stage.Stage.{Stage}
@@ -155,3 +159,31 @@ module _ (mark F V : ℕ) (ws : List ℕ) where
       subst Lawful (sym (b .standing-is ∙ x .tables-are ∙ any-order m w (x .tasks-run) (x .are-tasks) every)) (refinement-keeps-lawful m w (omega arith)) in
       subst (λ x. Kept Standing mark (4 * F) (V + 3 * F) 0 x) (sym is)
       ((omega arith, omega arith), (omega arith, (∥∥₁-map₂ law work raised, (∣ tt ∣₁, (refl, tt)))))
+
+-- a mesh that was loaded
+module _ (cs fs ms ss : List ℕ) (j : fine ≡ judge (mesh-of cs fs ms ss)) where
+  pub judged-lawful : Lawful (mesh-of cs fs ms ss)
+  judged-lawful = judges (mesh-of cs fs ms ss) .only-lawful (sym j)
+
+  pub judged-few : (mesh-of cs fs ms ss .quads ≤ most-quads) × (mesh-of cs fs ms ss .points ≤ 2 * mesh-of cs fs ms ss .quads)
+  judged-few = let w = judged-lawful .sound in (w .quads-few, w .points-few)
+
+  pub load-laid : (ws vs : List ℕ) (F : ℕ) → F ≡ mesh-of cs fs ms ss .quads → 8 * F + mesh-of cs fs ms ss .points ≤ length ws → vs ≡ four-laid ws F cs fs ms ss →
+      Load-writes (mesh-of cs fs ms ss) ws vs
+  unfolding mesh-of
+  load-laid ws vs F e room is =
+      let m = mesh-of cs fs ms ss in
+      let k : vs ≡ four-laid ws (m .quads) cs fs ms ss = is ∙ ap (λ x. four-laid ws x cs fs ms ss) e in
+      subst (λ x. Load-writes m ws x) (sym k) (loads-write m ws (judged-lawful .sound .counted) (omega arith))
+
+  pub load-keeps : (mark F V : ℕ) (ws vs : List ℕ) → F ≡ mesh-of cs fs ms ss .quads → V ≡ mesh-of cs fs ms ss .points → 8 * F + V ≤ length ws →
+      vs ≡ four-laid ws F cs fs ms ss → Kept Standing mark F V 0 vs
+  load-keeps mark F V ws vs e f room is =
+      let m = mesh-of cs fs ms ss in
+      let b = load-laid ws vs F e (omega arith) is in
+      let l = b .length-kept in
+      let w = judged-few in
+      let q = w .0 in
+      let p = w .1 in
+      let law : Lawful (standing-in vs (m .quads) (m .points)) = subst Lawful (sym (b .standing-is)) judged-lawful in
+      ((omega arith, omega arith), (omega arith, (∣ rw (e, f) law ∣₁, (∣ tt ∣₁, (refl, tt)))))

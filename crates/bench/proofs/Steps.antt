@@ -9,18 +9,36 @@ use lib.ListN.{length, getD, set, replicate}
 use Rattle.std.specs.declared.option.Option.the-variants.{Some, None}
 use Rattle.std.proofs.shelf.Tests.{cond-true, cond-false, lt-ltb, le-ltb, le-leb, lt-leb, eq-eqb, ne-eqb}
 use Rattle.mesh.specs.Count.{least}
-use Rattle.mesh.specs.Mesh.{most-quads}
+use Rattle.mesh.specs.Causes.{judge, mesh-of}
+use Rattle.mesh.specs.Mesh.{Mesh, most-quads}
 use Rattle.mesh.specs.Refusals.{Verdict, fine, declined}
 use Rattle.refinement.specs.Tasks.{Task, quad-task, point-task, Task-of}
-use Rattle.chain.specs.Calls.{Call, begin, quad, point, finish, withdraw, State, cause, refusal, carry}
+use Rattle.chain.specs.Calls.{Call, load, begin, quad, point, finish, withdraw, State, cause, and-next, missing, words-to-load, holding, refusal, carry}
 use Rattle.chain.specs.Clauses.{Called}
 use Rattle.chain.proofs.Runs.{carried, declines}
 use Rattle.layout.specs.Layout.{block, standing-in, work-in, laid, after-task, standing-bench, working-bench, In-range}
+use Rattle.layout.specs.Laws.{Load-writes}
 use Rattle.layout.proofs.Laid.{begins-write, finishes-write}
 use Rattle.layout.proofs.Writes.{tasks-write}
 use Rattle.bench.specs.State.{bench-at}
 use Rattle.bench.specs.declared.stage.Stage.{Stage}
 use Rattle.bench.specs.declared.stage.Stage.the-variants.{Empty, Standing, Working}
+
+-- what a load of a lawful mesh is refused for
+abbrev later : State → Mesh → Verdict
+later s m = cause 11 0 (not (missing (s .work))) (cause 14 0 (ltb (s .words) (words-to-load (m .quads) (m .points))) fine)
+
+not-in-work : (s : Stage) (mark F V : ℕ) (ws : List ℕ) (m : Mesh) → (s ≡ Working → ⊥) →
+    later (bench-at s mark F V ws) m ≡ cause 14 0 (ltb (length ws) (8 * m .quads + m .points)) fine
+not-in-work Empty mark F V ws m n = refl
+not-in-work Standing mark F V ws m n = refl
+not-in-work Working mark F V ws m n = absurd (n refl)
+
+loaded : (s : Stage) (mark F V : ℕ) (ws vs : List ℕ) (m : Mesh) → Load-writes m ws vs →
+    standing-bench mark (m .quads) (m .points) vs ≡ holding (bench-at s mark F V ws) (Some m) None
+loaded Empty mark F V ws vs m b = λ i. record { words = b .length-kept i; mark = mark; standing = Some (b .standing-is i); work = None }
+loaded Standing mark F V ws vs m b = λ i. record { words = b .length-kept i; mark = mark; standing = Some (b .standing-is i); work = None }
+loaded Working mark F V ws vs m b = λ i. record { words = b .length-kept i; mark = mark; standing = Some (b .standing-is i); work = None }
 
 module _ (mark F V : ℕ) (ws : List ℕ) where
   -- a call that a stage refuses, whatever the counts
@@ -96,3 +114,28 @@ module _ (mark F V : ℕ) (ws : List ℕ) where
       (carried (working-bench mark F V ws) _ (finish slip)
       (ap (λ b. cause 17 0 (not b) (cause 18 lowest (ltb lowest (F + V)) fine)) (eq-eqb slip mark h) ∙ cond-false _ _ _ (le-ltb _ _ k))
       (λ i. record { words = b .length-kept i; mark = mark; standing = Some (b .standing-is i); work = None }))
+
+  -- loads
+  module _ (s : Stage) (cs fs ms ss : List ℕ) where
+    pub unlawful : (n p : ℕ) → declined n p ≡ judge (mesh-of cs fs ms ss) →
+        Called (bench-at s mark F V ws) (load cs fs ms ss) (bench-at s mark F V ws) (declined n p)
+    unlawful n p e = declines (bench-at s mark F V ws) (load cs fs ms ss) n p (sym (ap (λ v. and-next v (later (bench-at s mark F V ws) (mesh-of cs fs ms ss))) e))
+
+    pub load-in-work : s ≡ Working → fine ≡ judge (mesh-of cs fs ms ss) → Called (bench-at s mark F V ws) (load cs fs ms ss) (bench-at s mark F V ws) (declined 11 0)
+    load-in-work e j =
+        rw e (declines (working-bench mark F V ws) (load cs fs ms ss) 11 0 (sym (ap (λ v. and-next v (later (working-bench mark F V ws) (mesh-of cs fs ms ss))) j)))
+
+    idle : (s ≡ Working → ⊥) → fine ≡ judge (mesh-of cs fs ms ss) →
+        refusal (bench-at s mark F V ws) (load cs fs ms ss) ≡ cause 14 0 (ltb (length ws) (8 * mesh-of cs fs ms ss .quads + mesh-of cs fs ms ss .points)) fine
+    idle n j = sym (ap (λ v. and-next v (later (bench-at s mark F V ws) (mesh-of cs fs ms ss))) j) ∙ not-in-work s mark F V ws (mesh-of cs fs ms ss) n
+
+    module _ (G U : ℕ) (e : G ≡ mesh-of cs fs ms ss .quads) (f : U ≡ mesh-of cs fs ms ss .points) where
+      pub load-too-few : (s ≡ Working → ⊥) → fine ≡ judge (mesh-of cs fs ms ss) → length ws < 8 * G + U →
+          Called (bench-at s mark F V ws) (load cs fs ms ss) (bench-at s mark F V ws) (declined 14 0)
+      load-too-few n j h = declines (bench-at s mark F V ws) (load cs fs ms ss) 14 0 (idle n j ∙ cond-true _ _ _ (lt-ltb (length ws) (8 * mesh-of cs fs ms ss .quads + mesh-of cs fs ms ss .points) (omega arith)))
+
+      pub load-carried : (vs : List ℕ) → (s ≡ Working → ⊥) → fine ≡ judge (mesh-of cs fs ms ss) → Load-writes (mesh-of cs fs ms ss) ws vs → 8 * G + U ≤ length ws →
+          Called (bench-at s mark F V ws) (load cs fs ms ss) (bench-at Standing mark G U vs) fine
+      load-carried vs n j b h =
+          carried (bench-at s mark F V ws) _ (load cs fs ms ss) (idle n j ∙ cond-false _ _ _ (le-ltb (length ws) (8 * mesh-of cs fs ms ss .quads + mesh-of cs fs ms ss .points) (omega arith)))
+          (rw (e, f) (loaded s mark F V ws vs (mesh-of cs fs ms ss) b))

@@ -7,10 +7,13 @@ ghost use lib.ListN.{length, getD, set, replicate};
 ghost use denote.Ref.{now as held};
 ghost use Rattle.std.specs.shelf.Lists.{countBy};
 ghost use Rattle.mesh.specs.Count.{least};
-ghost use Rattle.mesh.specs.Mesh.{friend as friend-of};
+ghost use Rattle.mesh.specs.Mesh.{Counted, friend as friend-of};
 ghost use Rattle.refinement.specs.Tasks.{put, from as side-by-side, new-corners, edge-slot, fallen, quad-task, point-task};
+ghost use Rattle.tables.specs.Lent.{mesh};
+ghost use Rattle.layout.specs.Laws.{four-laid};
 ghost use Rattle.layout.specs.Layout.{block, laid, shifted, standing-in, after-task, In-range};
 ghost use Rattle.bench.specs.Writes.{friends-by, marks-by, starts-by};
+use tables::lent::Tables;
 
 // The word of an infinite mark, and by how much a semi-sharp one falls.
 const INFINITE: u32 = 65535;
@@ -252,6 +255,18 @@ impl<'a> Words<'a> {
         ensures { λ _. ⌜ held (now (self .exit) .cells) ≡ laid (held (now (self .entry) .cells)) 0 (block (held (now (self .entry) .cells)) from count) ⌝ }
     {
         move_down(self.cells, from, count);
+    }
+
+    // Writes four tables over the front.
+    pub fn lay_tables(&mut self, tables: &Tables<'_>, quads: usize)
+        requires shape { ⌜ Counted (mesh (now tables)) ⌝ ∗ ⌜ quads ≡ mesh (now tables) .quads ⌝ }
+        requires room { ⌜ 8 * quads + mesh (now tables) .points ≤ length (held (now self .cells)) ⌝ }
+        ensures { λ _. ⌜ held (now (self .exit) .cells) ≡ four-laid (held (now (self .entry) .cells)) quads (held (now (tables .entry) .corners)) (held (now (tables .entry) .friends)) (held (now (tables .entry) .marks)) (held (now (tables .entry) .starts)) ⌝ }
+    {
+        self.copy_in(0, tables.corners);
+        self.copy_in(4 * quads, tables.friends);
+        self.copy_in(6 * quads, tables.marks);
+        self.copy_in(8 * quads, tables.starts);
     }
 
     // Writes 0 into `count` words from `at` on.

@@ -50,6 +50,9 @@ module _ (ws : List ℕ) (a : ℕ) (xs : List ℕ) (fits : a + length xs ≤ len
   pub laid-block : (n : ℕ) → length xs ≡ n → block (laid ws a xs) a n ≡ xs
   laid-block n e = let l = length-laid in block-is (laid ws a xs) xs a n (omega arith) e (λ i h. laid-inside i (omega arith))
 
+pub length-after-laid : (ws vs : List ℕ) (a : ℕ) (xs : List ℕ) → a + length xs ≤ length ws → vs ≡ laid ws a xs → length vs ≡ length ws
+length-after-laid ws vs a xs h e = ap length e ∙ length-laid ws a xs h
+
 pub begins-write : Begins-write
 unfolding blank
 begins-write F V ws room =

@@ -1,6 +1,7 @@
+ghost use denote.Ref.{now as held};
 ghost use lib.ListN.{length};
 ghost use Rattle.mesh.specs.Refusals.{told};
-ghost use Rattle.chain.specs.Calls.{begin, quad as quad-call, point as point-call, finish, withdraw, left};
+ghost use Rattle.chain.specs.Calls.{load, begin, quad as quad-call, point as point-call, finish, withdraw, left};
 ghost use Rattle.chain.specs.Clauses.{Called, Made};
 ghost use Rattle.bench.specs.Model.{state, Bears, Counts, told-slip, Comes-back};
 use super::Bench;
@@ -12,6 +13,7 @@ use mesh::fault::Fault;
 use mesh::number::Point;
 use mesh::number::Quad;
 use mesh::number::Task;
+use tables::lent::Tables;
 
 // No level has more quads.
 const MOST_QUADS: usize = 1048576;
@@ -29,6 +31,29 @@ impl<'a> Bench<'a> {
             points: 0,
             left: 0,
         }
+    }
+
+    // Makes the mesh of these tables the standing level.
+    pub fn load(&mut self, tables: &Tables<'_>) -> Result<(), Fault>
+        ensures { λ r. ⌜ Called (state (now (self .entry))) (load (held (now (tables .entry) .corners)) (held (now (tables .entry) .friends)) (held (now (tables .entry) .marks)) (held (now (tables .entry) .starts))) (state (now (self .exit))) (told r) ⌝ }
+    {
+        if let Err(fault) = tables.judge() {
+            return Err(fault);
+        }
+        if let Stage::Working = self.stage {
+            return Err(Fault::LevelInWork);
+        }
+        let quads = tables.quads();
+        let points = tables.starts.len();
+        if self.words.cells.len() < 8 * quads + points {
+            return Err(Fault::TooFewWords);
+        }
+        self.words.lay_tables(tables, quads);
+        self.quads = quads as u32;
+        self.points = points as u32;
+        self.left = 0;
+        self.stage = Stage::Standing;
+        Ok(())
     }
 
     // Opens a level in work, whose words are all 0, and hands out the slip that closes it.
