@@ -1,1 +1,1 @@
-mod Marks
+pub mod Marks
