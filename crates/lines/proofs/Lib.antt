@@ -1,4 +1,4 @@
-mod Words
+pub mod Words
 pub mod LineWords
 mod Rule
 mod Bodies

@@ -1,0 +1,2 @@
+mod Writes
+mod LinesOf

@@ -1,0 +1,47 @@
+// The lines of a mesh, written into a lent buffer.
+ghost use mathlib.Core.Path.{_≡_};
+ghost use Prim.Native.Nat.{_+_, _*_, _/_, _≤_};
+ghost use lib.ListN.{length};
+ghost use Rattle.std.specs.shelf.Lists.{joined};
+ghost use Rattle.mesh.specs.Mesh.{Counted};
+ghost use Rattle.lines.specs.Text.{line-text, quad-rows, start-rows, mesh-text};
+ghost use Rattle.tables.specs.Lent.{mesh};
+ghost use Rattle.text.specs.Put.{Put};
+use crate::put::put_line;
+use crate::put::words_size;
+use tables::lent::Tables;
+
+// The second digits of the kinds of lines that a text has; the first is 0.
+const COUNTS: u8 = b'0';
+const QUAD: u8 = b'1';
+const START: u8 = b'2';
+
+// Writes the lines of the quads from `at` on; the place after them.
+fn put_quads(corners: &[u32], friends: &[u32], marks: &[u32], out: &mut [u8], at: usize) -> usize
+    requires corner_count { ⌜ length (now corners) ≡ 4 * (length (now corners) / 4) ⌝ }
+    requires friend_count { ⌜ length (now friends) ≡ 2 * (length (now corners) / 4) ⌝ }
+    requires mark_count { ⌜ length (now marks) ≡ 2 * (length (now corners) / 4) ⌝ }
+    requires room { ⌜ at + length (joined (line-text 48 49) (quad-rows (length (now corners) / 4) (now corners) (now friends) (now marks))) ≤ length (now out) ⌝ }
+    ensures { λ end. ⌜ Put (now (out .entry)) at (joined (line-text 48 49) (quad-rows (length (now (corners .entry)) / 4) (now (corners .entry)) (now (friends .entry)) (now (marks .entry)))) end (now (out .exit)) ⌝ }
+{
+    let mut p = at;
+    for q in 0..corners.len() / 4 {
+        let c = 4 * q;
+        let o = 2 * q;
+        let row = [corners[c], corners[c + 1], corners[c + 2], corners[c + 3], friends[o], friends[o + 1], marks[o], marks[o + 1]];
+        p = put_line(QUAD, &row, out, p);
+    }
+    p
+}
+
+// Writes the lines of the points from `at` on; the place after them.
+fn put_starts(starts: &[u32], out: &mut [u8], at: usize) -> usize
+    requires { ⌜ at + length (joined (line-text 48 50) (start-rows (now starts))) ≤ length (now out) ⌝ }
+    ensures { λ end. ⌜ Put (now (out .entry)) at (joined (line-text 48 50) (start-rows (now (starts .entry)))) end (now (out .exit)) ⌝ }
+{
+    let mut p = at;
+    for start in starts {
+        p = put_line(START, &[*start], out, p);
+    }
+    p
+}
