@@ -1,3 +1,3 @@
 // A mesh written as text into a lent buffer.
-mod put;
 mod level;
+mod put;
