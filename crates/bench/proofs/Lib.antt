@@ -1,0 +1,3 @@
+mod Tasks
+mod Steps
+mod Keeps
