@@ -2,8 +2,8 @@ pub mod Words
 pub mod LineWords
 mod Rule
 mod Bodies
-mod Exactly
-mod Finds
+pub mod Exactly
+pub mod Finds
 mod Laying
 mod RowsRead
 mod TextRows

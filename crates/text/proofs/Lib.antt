@@ -1,3 +1,4 @@
 mod Writes
 mod LinesOf
 mod Sizes
+mod Texts

@@ -1,3 +1,4 @@
-// A mesh written as text into a lent buffer.
+// A bench loaded from text, and its standing level written as text.
 mod level;
+pub mod load;
 mod put;

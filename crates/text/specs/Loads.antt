@@ -1,0 +1,24 @@
+-- What loading from a text answers.
+use mathlib.Core.Path.{_≡_}
+use Rattle.std.specs.declared.result.Result.{Result}
+use Rattle.std.specs.declared.result.Result.the-variants.{Ok, Err}
+use Rattle.mesh.specs.Mesh.{Mesh}
+use Rattle.mesh.specs.Refusals.{Verdict, fine, declined, number-of, place-of}
+use Rattle.mesh.specs.declared.fault.Fault.{Fault}
+use Rattle.lines.specs.Reading.{Reading, accepted, refused}
+use Rattle.text.specs.declared.load.TextFault.{TextFault}
+use Rattle.text.specs.declared.load.TextFault.the-variants.{Unread, Unloaded}
+
+abbrev pub fault-in : TextFault → Fault
+fault-in (Unread f) = f
+fault-in (Unloaded f) = f
+
+abbrev pub told-text : {A : Type 0} → Result A TextFault → Verdict
+told-text (Ok x) = fine
+told-text (Err t) = declined (number-of (fault-in t)) (place-of (fault-in t))
+
+-- whose refusal it is: reading's exactly where the text was not read
+abbrev pub Whose : {A : Type 0} → Reading → Result A TextFault → Type 0
+Whose r (Ok x) = (m : Mesh) × (r ≡ accepted m)
+Whose r (Err (Unread f)) = r ≡ refused f
+Whose r (Err (Unloaded f)) = (m : Mesh) × (r ≡ accepted m)
