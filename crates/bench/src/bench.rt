@@ -2,6 +2,7 @@ ghost use denote.Ref.{now as held};
 ghost use Rattle.bench.specs.State.{Few, Room, Stands, Works, Count};
 
 pub mod calls;
+pub mod questions;
 pub mod slip;
 
 use crate::stage::Stage;

@@ -11,7 +11,7 @@ ghost use Rattle.mesh.specs.Mesh.{Counted, friend as friend-of};
 ghost use Rattle.refinement.specs.Tasks.{put, from as side-by-side, new-corners, edge-slot, fallen, quad-task, point-task};
 ghost use Rattle.tables.specs.Lent.{mesh};
 ghost use Rattle.layout.specs.Laws.{four-laid};
-ghost use Rattle.layout.specs.Layout.{block, laid, shifted, standing-in, after-task, In-range};
+ghost use Rattle.layout.specs.Layout.{block, level-at, laid, shifted, standing-in, after-task, In-range};
 ghost use Rattle.bench.specs.Writes.{friends-by, marks-by, starts-by};
 use tables::lent::Tables;
 
@@ -255,6 +255,22 @@ impl<'a> Words<'a> {
         ensures { λ _. ⌜ held (now (self .exit) .cells) ≡ laid (held (now (self .entry) .cells)) 0 (block (held (now (self .entry) .cells)) from count) ⌝ }
     {
         move_down(self.cells, from, count);
+    }
+
+    // The tables of a level that begins at `base`, lent.
+    pub fn tables(&self, base: usize, quads: usize, points: usize) -> Tables<'_>
+        requires { ⌜ base + (8 * quads + points) ≤ length (held (now self .cells)) ⌝ }
+        ensures { λ r. ⌜ mesh r ≡ level-at (held (now (self .entry) .cells)) base quads points ⌝ }
+    {
+        let friends = base + 4 * quads;
+        let marks = base + 6 * quads;
+        let starts = base + 8 * quads;
+        Tables {
+            corners: &self.cells[base..friends],
+            friends: &self.cells[friends..marks],
+            marks: &self.cells[marks..starts],
+            starts: &self.cells[starts..starts + points],
+        }
     }
 
     // Writes four tables over the front.
