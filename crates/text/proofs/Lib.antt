@@ -2,3 +2,4 @@ mod Writes
 mod LinesOf
 mod Sizes
 mod Texts
+mod Returns

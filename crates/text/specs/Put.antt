@@ -16,5 +16,5 @@ pub record Put (e : List ℕ) (at : ℕ) (t : List ℕ) (end : ℕ) (o : List �
 
 -- What writing a text answers: its length, with the text in the front of the buffer and nothing else changed; or, where the buffer is too short, that, and nothing is changed.
 abbrev pub Written : List ℕ → List ℕ → List ℕ → Result ℕ Fault → Type 0
-Written t e o (Ok n) = Put e 0 t n o
+Written t e o (Ok n) = (length t ≤ length e) × Put e 0 t n o
 Written t e o (Err f) = (f ≡ TooShort) × (length e < length t) × (o ≡ e)

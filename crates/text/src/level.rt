@@ -86,7 +86,7 @@ fn put_text(level: &Tables<'_>, out: &mut [u8]) -> usize
 }
 
 // Writes the text of a mesh where there is room for it, and else nothing.
-pub(crate) fn write(level: &Tables<'_>, out: &mut [u8]) -> Result<usize, Fault>
+pub(crate) fn write_level(level: &Tables<'_>, out: &mut [u8]) -> Result<usize, Fault>
     requires { ⌜ Lawful (mesh (now level)) ⌝ }
     ensures { λ r. ⌜ Written (mesh-text (mesh (now (level .entry)))) (now (out .entry)) (now (out .exit)) r ⌝ }
 {

@@ -2,3 +2,4 @@
 mod level;
 pub mod load;
 mod put;
+pub mod write;
