@@ -1,20 +1,22 @@
 -- A text that is read is loaded as the mesh that its tables then hold.
 use mathlib.Core.List.{List}
 use mathlib.Core.Path.{_≡_, refl, sym, ap, _∙_, subst}
-use Prim.Native.Nat.{ℕ, _*_, _≤_}
+use Prim.Native.Nat.{ℕ, _*_, _/_, _≤_}
 use native.Mathlib.Omega.{arith}
 use lib.ListN.{length, take, drop}
 use Rattle.std.specs.declared.result.Result.{Result}
 use Rattle.std.specs.declared.result.Result.the-variants.{Ok, Err}
 use Rattle.std.proofs.shelf.Lists.{take-at}
 use Rattle.mesh.specs.Mesh.{Mesh, Counted}
-use Rattle.mesh.specs.Refusals.{Verdict, declined, number-of, place-of}
+use Rattle.mesh.specs.Causes.{mesh-of}
+use Rattle.mesh.specs.Refusals.{Verdict, fine, declined, number-of, place-of}
+use Rattle.std.specs.declared.option.Option.the-variants.{Some}
 use Rattle.mesh.specs.declared.fault.Fault.{Fault}
 use Rattle.lines.specs.Laws.{Text-of, Has-room}
 use Rattle.lines.specs.Reading.{Room, Reading, accepted, refused, reading, answer, laid, Holds}
 use Rattle.lines.specs.declared.reader.Counts.{Counts}
 use Rattle.lines.proofs.Exactly.{reading-is-exact}
-use Rattle.chain.specs.Calls.{Call, State, load, load-text}
+use Rattle.chain.specs.Calls.{Call, State, load, load-text, tables-of, read-mesh, either, carry}
 use Rattle.chain.specs.Clauses.{Called}
 use Rattle.chain.proofs.Runs.{called, declines, texts-load-as-tables}
 
@@ -64,3 +66,19 @@ module _ (m : Mesh) (bytes : List ℕ) (r : Room) (e : reading bytes r ≡ accep
         (front (m .starts) ss ss′ (n .points) (omega arith) (h .starts-hold) i)) c in
         let t = texts-load-as-tables s bytes r in
         called s s′ (load-text bytes r) a (d .answers ∙ sym (t .read-answers m e)) (d .leaves ∙ sym (t .read-leaves m e))
+
+    -- the tables that were read are those of the mesh
+    same-tables : tables-of m ≡ m
+    unfolding mesh-of
+    same-tables =
+        let k = told .0 .counted in
+        let c = k .corner-count in
+        let f : length (m .corners) / 4 ≡ m .quads = omega arith in
+        λ i. record { quads = f i; points = k .start-count i; corners = m .corners; friends = m .friends; marks = m .marks; starts = m .starts }
+
+    -- and where the load is carried out, they stand
+    pub stands : (s s′ : State) → Called s (load-text bytes r) s′ fine → (x : Mesh) × (s′ .standing ≡ Some x) × Text-of x bytes
+    stands s s′ c =
+        let a = ap (λ (v : Verdict). either v (carry s (load-text bytes r)) s .standing) (sym (c .answers)) in
+        let b = ap (λ (o : Reading). read-mesh o) e in
+        (m, ap (λ (t : State). t .standing) (c .leaves) ∙ a ∙ b ∙ ap Some same-tables, told .0)

@@ -9,7 +9,7 @@ ghost use Rattle.chain.specs.Calls.{load, load-text};
 ghost use Rattle.chain.specs.Clauses.{Called};
 ghost use Rattle.bench.specs.Model.{state};
 ghost use Rattle.text.specs.declared.load.TextFault.the-variants.{Unloaded};
-ghost use Rattle.text.specs.Loads.{fault-in, told-text, Whose};
+ghost use Rattle.text.specs.Loads.{fault-in, told-text, Loaded, Whose};
 use bench::bench::Bench;
 use lines::Counts;
 use lines::read;
@@ -80,6 +80,7 @@ pub fn load_text(
 ) -> Result<(), TextFault>
     ensures call { λ r. ⌜ Called (state (now (bench .entry))) (load-text (now (text .entry)) (room (now (corners .entry)) (now (friends .entry)) (now (marks .entry)) (now (starts .entry)))) (state (now (bench .exit))) (told-text r) ⌝ }
     ensures tables { λ r. ⌜ Holds (reading (now (text .entry)) (room (now (corners .entry)) (now (friends .entry)) (now (marks .entry)) (now (starts .entry)))) (now (corners .entry)) (now (friends .entry)) (now (marks .entry)) (now (starts .entry)) (now (corners .exit)) (now (friends .exit)) (now (marks .exit)) (now (starts .exit)) ⌝ }
+    ensures loaded { λ r. ⌜ Loaded (now (text .entry)) (state (now (bench .exit))) r ⌝ }
     ensures whose { λ r. ⌜ Whose (reading (now (text .entry)) (room (now (corners .entry)) (now (friends .entry)) (now (marks .entry)) (now (starts .entry)))) r ⌝ }
 {
     let counts = match read(text, corners, friends, marks, starts) {

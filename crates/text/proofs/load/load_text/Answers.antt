@@ -9,9 +9,9 @@ use Rattle.lines.specs.Reading.{Reading, accepted, refused, reading, room, Hold
 use Rattle.bench.specs.Model.{state}
 use Rattle.chain.specs.Calls.{load-text}
 use Rattle.chain.specs.Clauses.{Called}
-use Rattle.text.specs.Loads.{told-text, Whose}
+use Rattle.text.specs.Loads.{told-text, Loaded, Whose}
 use Rattle.text.specs.declared.load.TextFault.{TextFault}
-use Rattle.text.proofs.Texts.{Was-read, was-read, was-refused, unread, has-room, loaded}
+use Rattle.text.proofs.Texts.{Was-read, was-read, was-refused, unread, has-room, loaded, stands}
 use Rattle.text.proofs.load.load_text.Needs as need
 
 pub returns-in-Err : need.returns-in-Err
@@ -19,7 +19,7 @@ returns-in-Err c =
     let r = room (c .args .corners .now) (c .args .friends .now) (c .args .marks .now) (c .args .starts .now) in
     let h = c .in-Err .ensures tt in
     let e = was-refused (reading (c .args .text .now) r) (c .in-Err .fault) (h .answer) in
-    record { call = unread (state (c .args .bench .now)) (c .args .text .now) r (c .in-Err .fault) e; tables = h .tables; whose = e }
+    record { call = unread (state (c .args .bench .now)) (c .args .text .now) r (c .in-Err .fault) e; tables = h .tables; loaded = tt; whose = e }
 
 pub load-front-requires : need.load-front-requires
 load-front-requires c κs =
@@ -41,8 +41,9 @@ returns-in-Break-load-front c =
     let g = loaded (w .mesh) (c .args .text .now) r (w .is) (c .in-Ok .counts) (c .args .corners .now) (c .args .friends .now) (c .args .marks .now) (c .args .starts .now) (c .read .last .corners) (c .read .last .friends) (c .read .last .marks) (c .read .last .starts) (w .quads-are) (w .points-are) (subst P (w .is) (h .tables)) in
     let q = p .1 ∙ ap Err (p .2) in
     let C : Result (Unit {0}) TextFault → Type 0 = λ x. Called (state (c .args .bench .now)) (load-text (c .args .text .now) r) (state (c .load-front .last .bench)) (told-text x) in
+    let L : Result (Unit {0}) TextFault → Type 0 = Loaded (c .args .text .now) (state (c .load-front .last .bench)) in
     let W : Result (Unit {0}) TextFault → Type 0 = Whose (reading (c .args .text .now) r) in
-    record { call = subst C (sym q) (g _ _ _ (c .in-Break-load-front .ensures tt)); tables = h .tables; whose = subst W (sym q) (w .mesh, w .is) }
+    record { call = subst C (sym q) (g _ _ _ (c .in-Break-load-front .ensures tt)); tables = h .tables; loaded = subst L (sym q) tt; whose = subst W (sym q) (w .mesh, w .is) }
 
 pub returns : need.returns
 returns c =
@@ -51,4 +52,6 @@ returns c =
     let w = was-read (reading (c .args .text .now) r) (c .in-Ok .counts) (h .answer) in
     let P : Reading → Type 0 = λ o. Holds o (c .args .corners .now) (c .args .friends .now) (c .args .marks .now) (c .args .starts .now) (c .read .last .corners) (c .read .last .friends) (c .read .last .marks) (c .read .last .starts) in
     let g = loaded (w .mesh) (c .args .text .now) r (w .is) (c .in-Ok .counts) (c .args .corners .now) (c .args .friends .now) (c .args .marks .now) (c .args .starts .now) (c .read .last .corners) (c .read .last .friends) (c .read .last .marks) (c .read .last .starts) (w .quads-are) (w .points-are) (subst P (w .is) (h .tables)) in
-    record { call = g _ _ _ (c .in-Continue-load-front .ensures tt); tables = h .tables; whose = (w .mesh, w .is) }
+    let d = g _ _ _ (c .in-Continue-load-front .ensures tt) in
+    let t = stands (w .mesh) (c .args .text .now) r (w .is) (c .in-Ok .counts) (c .args .corners .now) (c .args .friends .now) (c .args .marks .now) (c .args .starts .now) (c .read .last .corners) (c .read .last .friends) (c .read .last .marks) (c .read .last .starts) (w .quads-are) (w .points-are) (subst P (w .is) (h .tables)) _ _ d in
+    record { call = d; tables = h .tables; loaded = t; whose = (w .mesh, w .is) }
