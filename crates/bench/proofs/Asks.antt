@@ -22,6 +22,7 @@ use Rattle.mesh.specs.declared.fault.Fault.{Fault}
 use Rattle.refinement.specs.Tasks.{Task, Task-of, mark-writes, blank, runs, refine}
 use Rattle.refinement.proofs.Keeps.{refinement-keeps-lawful}
 use Rattle.refinement.proofs.Made.{any-list-of-tasks}
+use Rattle.refinement.proofs.OneProof.{lawful-shown}
 use Rattle.refinement.proofs.Order.{refined}
 use Rattle.tables.specs.Edges.{Reads}
 use Rattle.tables.specs.Lent.{mesh}
@@ -32,7 +33,7 @@ use Rattle.layout.proofs.Blocks.{length-block}
 use Rattle.bench.specs.State.{bench-at, Few, Room, Stands, Works}
 use Rattle.bench.specs.declared.stage.Stage.{Stage}
 use Rattle.bench.specs.declared.stage.Stage.the-variants.{Standing, Working}
-use Rattle.bench.specs.Questions.{seen, unseen, counted, asking, Lent, Tells}
+use Rattle.bench.specs.Questions.{seen, unseen, counted, asking, Lawful-if, Lent, Tells}
 use Rattle.bench.specs.declared.level.Level.{Level}
 use Rattle.bench.specs.declared.level.Level.the-variants.{Standing as Level-standing, InWork}
 
@@ -88,14 +89,15 @@ written-mark m w h g few o k =
 -- the tables that a bench lends
 module _ (mark-number F V : ℕ) (ws : List ℕ) (t : Tables) (s : Stage) where
   lent : (l : Level) (m : Mesh) → unseen (bench-at s mark-number F V ws) l ≡ fine → seen (bench-at s mark-number F V ws) l ≡ Some m → mesh t ≡ m → Counted m → m .quads ≤ most-quads → m .points ≤ 2 * m .quads →
-      ((o : ℕ) → o < 2 * m .quads → Mark-word (mark m o)) → Lent (bench-at s mark-number F V ws) l t
-  lent l m u k e c q p w = record {
+      ((o : ℕ) → o < 2 * m .quads → Mark-word (mark m o)) → Lawful-if l m → Lent (bench-at s mark-number F V ws) l t
+  lent l m u k e c q p w law = record {
     there = u;
     is = k ∙ ap Some (sym e);
     shape = subst Counted (sym e) c;
     quads-few = subst (λ x. x .quads ≤ most-quads) (sym e) q;
     points-few = subst (λ (x : Mesh). x .points ≤ 2 * x .quads) (sym e) p;
     marks-are-words = subst (λ (x : Mesh). (o : ℕ) → o < 2 * x .quads → Mark-word (mark x o)) (sym e) w;
+    lawful = subst (Lawful-if l) (sym e) law;
   }
 
   pub lent-standing : s ≡ Standing → Few s F V → Room s F V ws → ∥ Stands s F V ws ∥₁ → mesh t ≡ level-at ws 0 F V → Lent (bench-at s mark-number F V ws) Level-standing t
@@ -103,7 +105,7 @@ module _ (mark-number F V : ℕ) (ws : List ℕ) (t : Tables) (s : Stage) where
       let f = subst (λ x. Few x F V) e few in
       let r = subst (λ x. Room x F V ws) e room in
       lent Level-standing (level-at ws 0 F V) (ap (λ x. unseen (bench-at x mark-number F V ws) Level-standing) e) (ap (λ x. seen (bench-at x mark-number F V ws) Level-standing) e)
-      k (counted-level ws 0 F V (omega arith)) (f .0) (f .1) (lawful-mark _ (subst (λ x. ∥ Stands x F V ws ∥₁) e h))
+      k (counted-level ws 0 F V (omega arith)) (f .0) (f .1) (lawful-mark _ (subst (λ x. ∥ Stands x F V ws ∥₁) e h)) (lawful-shown _ (subst (λ x. ∥ Stands x F V ws ∥₁) e h))
 
   pub lent-below : s ≡ Working → Few s F V → Room s F V ws → ∥ Stands s F V ws ∥₁ → mesh t ≡ level-at ws 0 F V → Lent (bench-at s mark-number F V ws) Level-standing t
   lent-below e few room h k =
@@ -111,7 +113,7 @@ module _ (mark-number F V : ℕ) (ws : List ℕ) (t : Tables) (s : Stage) where
       let q = f .0 in
       let r = subst (λ x. Room x F V ws) e room in
       lent Level-standing (level-at ws 0 F V) (ap (λ x. unseen (bench-at x mark-number F V ws) Level-standing) e) (ap (λ x. seen (bench-at x mark-number F V ws) Level-standing) e)
-      k (counted-level ws 0 F V (omega arith)) (omega arith) (f .1) (lawful-mark _ (subst (λ x. ∥ Stands x F V ws ∥₁) e h))
+      k (counted-level ws 0 F V (omega arith)) (omega arith) (f .1) (lawful-mark _ (subst (λ x. ∥ Stands x F V ws ∥₁) e h)) (lawful-shown _ (subst (λ x. ∥ Stands x F V ws ∥₁) e h))
 
   pub lent-work : s ≡ Working → Few s F V → Room s F V ws → ∥ Stands s F V ws ∥₁ → ∥ Works s F V ws ∥₁ → mesh t ≡ level-at ws (8 * F + V) (4 * F) (V + 3 * F) →
       Lent (bench-at s mark-number F V ws) InWork t
@@ -122,7 +124,7 @@ module _ (mark-number F V : ℕ) (ws : List ℕ) (t : Tables) (s : Stage) where
       let r = subst (λ x. Room x F V ws) e room in
       lent InWork (level-at ws (8 * F + V) (4 * F) (V + 3 * F)) (ap (λ x. unseen (bench-at x mark-number F V ws) InWork) e) (ap (λ x. seen (bench-at x mark-number F V ws) InWork) e)
       k (counted-level ws (8 * F + V) (4 * F) (V + 3 * F) (omega arith)) (omega arith) (omega arith)
-      (λ o l. written-mark (standing-in ws F V) (work-in ws F V) (subst (λ x. ∥ Stands x F V ws ∥₁) e h) (subst (λ x. ∥ Works x F V ws ∥₁) e g) (omega arith) o (omega arith))
+      (λ o l. written-mark (standing-in ws F V) (work-in ws F V) (subst (λ x. ∥ Stands x F V ws ∥₁) e h) (subst (λ x. ∥ Works x F V ws ∥₁) e g) (omega arith) o (omega arith)) tt
 
 -- an off-edge that cannot be read is none of the level
 pub unread : (s : State) (l : Level) (t : Tables) → Lent s l t → (o : ℕ) → (Reads (mesh t) o → ⊥) → 2 * mesh t .quads ≤ o

@@ -7,7 +7,7 @@ use Rattle.std.specs.declared.option.Option.the-variants.{Some, None}
 use Rattle.std.specs.declared.result.Result.{Result}
 use Rattle.std.specs.declared.result.Result.the-variants.{Ok, Err}
 use Rattle.mesh.specs.Marks.{Mark-word, word-of}
-use Rattle.mesh.specs.Mesh.{Mesh, Counted, point, friend, mark, start, begins, ends, most-quads}
+use Rattle.mesh.specs.Mesh.{Mesh, Counted, Lawful, point, friend, mark, start, begins, ends, most-quads}
 use Rattle.mesh.specs.Refusals.{Verdict, fine, declined, number-of, place-of}
 use Rattle.mesh.specs.declared.fault.Fault.{Fault}
 use Rattle.mesh.specs.declared.mark.Mark.{Mark}
@@ -38,6 +38,11 @@ counted count (Some m) = count m
 abbrev pub asking : State → Level → (Mesh → ℕ) → ℕ → Verdict
 asking s l count n = and-next (unseen s l) (cause 16 n (leb (counted count (seen s l)) n) fine)
 
+-- a standing level is lawful; one in work may be half written
+abbrev pub Lawful-if : Level → Mesh → Type 0
+Lawful-if Standing m = Lawful m
+Lawful-if InWork m = Unit {0}
+
 -- the tables that are lent are those of the level; they fit together, and every mark word stands for a mark
 pub record Lent (s : State) (l : Level) (t : Tables) : Type 0 where
   pub there : unseen s l ≡ fine
@@ -46,6 +51,7 @@ pub record Lent (s : State) (l : Level) (t : Tables) : Type 0 where
   pub quads-few : mesh t .quads ≤ most-quads
   pub points-few : mesh t .points ≤ 2 * mesh t .quads
   pub marks-are-words : (o : ℕ) → o < 2 * mesh t .quads → Mark-word (mark (mesh t) o)
+  pub lawful : Lawful-if l (mesh t)
 
 abbrev pub Lends : State → Level → Result Tables Fault → Type 0
 Lends s l (Ok t) = Lent s l t
