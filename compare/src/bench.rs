@@ -218,7 +218,7 @@ impl View<'_> {
 /// old off-edge.
 fn writer_of_off_edge(old: &Mesh, off_edge: usize) -> usize {
     let h = off_edge / 2;
-    if off_edge % 2 == 0 { h / 4 } else { old.off_edge(previous(h)) / 2 }
+    if off_edge.is_multiple_of(2) { h / 4 } else { old.off_edge(previous(h)) / 2 }
 }
 
 fn writer_of_start(old: &Mesh, slot: usize) -> usize {

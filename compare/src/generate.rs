@@ -56,7 +56,7 @@ pub fn spindle(n: usize) -> Tables {
 
 /// A strip of `long` by `wide` quads closed both ways, to a torus; both numbers are even.
 pub fn ring(wide: usize, long: usize) -> Tables {
-    assert!(wide % 2 == 0 && long % 2 == 0);
+    assert!(wide.is_multiple_of(2) && long.is_multiple_of(2));
     let quad = move |i: usize, j: usize| {
         let (k, l) = ((i + 1) % wide, (j + 1) % long);
         // An edge is named by the point it leaves and its direction.
