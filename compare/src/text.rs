@@ -75,37 +75,55 @@ pub fn read_into(text: &[u8], lent: &mut Tables) -> Result<Counts, Refusal> {
 
 /// The `N` words of a line of this kind.
 fn words<const N: usize>(line: &[u8], kind: &str) -> Option<[u32; N]> {
-    let line = std::str::from_utf8(line).ok()?.strip_suffix('\n')?;
-    let mut pieces = line.split(' ');
-    if pieces.next() != Some(kind) {
+    let mut pieces = line.strip_suffix(b"\n")?.split(|&b| b == b' ');
+    if pieces.next()? != kind.as_bytes() {
         return None;
     }
-    let words: Vec<u32> = pieces.map(word).collect::<Option<_>>()?;
-    words.try_into().ok()
+    let mut words = [0; N];
+    for slot in &mut words {
+        *slot = word(pieces.next()?)?;
+    }
+    pieces.next().is_none().then_some(words)
 }
 
-fn word(piece: &str) -> Option<u32> {
-    let value = u32::from_str_radix(piece, 16).ok()?;
-    // Only the text that would be written is taken: no `+`, no capital, no zero in front.
-    (piece.len() <= 6 && format!("{value:x}") == piece).then_some(value)
+fn word(piece: &[u8]) -> Option<u32> {
+    match piece {
+        [] | [b'0', _, ..] => None,
+        _ if piece.len() > 6 => None,
+        _ => piece.iter().try_fold(0, |number, &byte| Some(16 * number + digit(byte)?)),
+    }
+}
+
+fn digit(byte: u8) -> Option<u32> {
+    match byte {
+        b'0'..=b'9' => Some(u32::from(byte - b'0')),
+        b'a'..=b'f' => Some(u32::from(byte - b'a') + 10),
+        _ => None,
+    }
 }
 
 pub fn write(tables: &Tables) -> String {
-    use std::fmt::Write;
     let Counts { quads, points } = tables.counts();
-    let mut text = format!("00 {quads:x} {points:x}\n");
+    let mut text = String::new();
+    push_line(&mut text, "00", [quads as u32, points as u32]);
     let rows = tables.corners.chunks_exact(4).zip(tables.friends.chunks_exact(2)).zip(tables.marks.chunks_exact(2));
     for ((corners, friends), marks) in rows {
-        text.push_str("01");
-        for word in corners.iter().chain(friends).chain(marks) {
-            write!(text, " {word:x}").unwrap();
-        }
-        text.push('\n');
+        push_line(&mut text, "01", corners.iter().chain(friends).chain(marks).copied());
     }
-    for start in &tables.starts {
-        writeln!(text, "02 {start:x}").unwrap();
+    for &start in &tables.starts {
+        push_line(&mut text, "02", [start]);
     }
     text
+}
+
+fn push_line(text: &mut String, kind: &str, words: impl IntoIterator<Item = u32>) {
+    text.push_str(kind);
+    for word in words {
+        text.push(' ');
+        let digits = (u32::BITS - word.leading_zeros()).div_ceil(4).max(1);
+        text.extend((0..digits).rev().filter_map(|k| char::from_digit((word >> (4 * k)) & 15, 16)));
+    }
+    text.push('\n');
 }
 
 #[cfg(test)]

@@ -1,6 +1,6 @@
 //! Values on points, carried to the next level.
 
-use crate::mesh::{INFINITE, Mesh, across, diagonal, next, previous};
+use crate::mesh::{INFINITE, Mesh, across, diagonal, next, off_edge_at, previous};
 use crate::refine::{Origin, Slots};
 use crate::refusal::{Cause, Refusal, refuse_at};
 
@@ -15,7 +15,7 @@ pub trait Rowed: Copy {
 /// A value of which blends are made.
 pub trait Value: Rowed {
     /// Of parts with weights other than 0, of which there is at least one.
-    fn blend(parts: &[(Self, u64)]) -> Self;
+    fn blend(parts: impl Iterator<Item = (Self, u32)>) -> Self;
 }
 
 /// Three whole numbers in tenths of a micrometre.
@@ -41,13 +41,15 @@ impl Rowed for Coordinates {
 }
 
 impl Value for Coordinates {
-    fn blend(parts: &[(Self, u64)]) -> Self {
-        let weight: i128 = parts.iter().map(|&(_, w)| i128::from(w)).sum();
-        Self([0, 1, 2].map(|k| {
-            let sum: i128 = parts.iter().map(|&(x, w)| i128::from(x.0[k]) * i128::from(w)).sum();
-            // The whole number below sum / weight + 1/2.
-            (2 * sum + weight).div_euclid(2 * weight) as i32
-        }))
+    fn blend(parts: impl Iterator<Item = (Self, u32)>) -> Self {
+        // At most 2^24 times 2^28 either way.
+        let (mut sums, mut weight) = ([0i64; 3], 0i64);
+        for (value, w) in parts {
+            weight += i64::from(w);
+            sums.iter_mut().zip(value.0).for_each(|(sum, x)| *sum += i64::from(w) * i64::from(x));
+        }
+        // The whole number below sum / weight + 1/2.
+        Self(sums.map(|sum| (2 * sum + weight).div_euclid(2 * weight) as i32))
     }
 }
 
@@ -68,46 +70,72 @@ impl Rowed for Influence {
 }
 
 impl Value for Influence {
-    fn blend(parts: &[(Self, u64)]) -> Self {
-        Self(parts.iter().fold(0, |set, (part, _)| set | part.0))
+    fn blend(parts: impl Iterator<Item = (Self, u32)>) -> Self {
+        Self(parts.fold(0, |set, (part, _)| set | part.0))
     }
 }
 
 /// A corner, which stands for its point, with a weight that may be 0.
-type Part = (usize, u64);
+type Part = (usize, u32);
+
+/// The marked edges that a walk meets.
+#[derive(Default)]
+struct Marked {
+    count: u32,
+    sum: u32,
+    infinite: bool,
+    /// The corners at which the first two are met.
+    first: [usize; 2],
+}
+
+impl Marked {
+    fn meet(&mut self, corner: usize, mark: u32) {
+        if mark == 0 {
+            return;
+        }
+        if let Some(place) = self.first.get_mut(self.count as usize) {
+            *place = corner;
+        }
+        self.count += 1;
+        self.sum += mark;
+        self.infinite |= mark == INFINITE;
+    }
+
+    fn sharpness(&self) -> u32 {
+        let most = 256 * self.count;
+        if self.infinite { most } else { self.sum.min(most) }
+    }
+}
 
 impl Mesh {
     /// The values of the refined level's points.
     pub fn values<K: Value>(&self, old: &[K]) -> Vec<K> {
         let slots = Slots::new(self.counts().quads);
-        let mut taken = Vec::new();
-        (0..self.counts().refined().points)
-            .map(|slot| {
-                let parts = self.parts(slots.origin(slot));
-                taken.clear();
-                taken.extend(parts.into_iter().filter(|&(_, w)| w != 0).map(|(c, w)| (old[self.point(c)], w)));
-                K::blend(&taken)
-            })
-            .collect()
+        let mut parts = Vec::new();
+        let value = |slot| {
+            self.parts(slots.origin(slot), &mut parts);
+            K::blend(parts.iter().filter(|(_, w)| *w != 0).map(|&(c, w)| (old[self.point(c)], w)))
+        };
+        (0..self.counts().refined().points).map(value).collect()
     }
 
     /// The parts of a new point, those of weight 0 among them.
-    pub fn parts(&self, origin: Origin) -> Vec<Part> {
+    pub fn parts(&self, origin: Origin, parts: &mut Vec<Part>) {
+        parts.clear();
         match origin {
-            Origin::Face(q) => (4 * q..4 * q + 4).map(|c| (c, 1)).collect(),
-            Origin::Edge(e) => self.edge_parts(e),
-            Origin::Point(v) => self.moved_parts(v),
+            Origin::Face(q) => parts.extend((4 * q..4 * q + 4).map(|c| (c, 1))),
+            Origin::Edge(e) => parts.extend(self.edge_parts(e)),
+            Origin::Point(v) => self.moved_parts(v, parts),
         }
     }
 
-    fn edge_parts(&self, edge: usize) -> Vec<Part> {
+    fn edge_parts(&self, edge: usize) -> [Part; 6] {
         let on = 2 * edge;
-        let off = self.twin(on);
-        let sharp = u64::from(self.mark(on).min(256));
-        let smooth = 256 - sharp;
-        let (begin, end) = (off, next(off));
+        let (begin, end) = (self.twin(on), next(self.twin(on)));
         let (third, fourth) = (next(end), previous(begin));
-        vec![
+        let sharp = self.mark(on).min(256);
+        let smooth = 256 - sharp;
+        [
             (begin, 6 * smooth + 8 * sharp),
             (end, 6 * smooth + 8 * sharp),
             (third.min(fourth), smooth),
@@ -117,36 +145,31 @@ impl Mesh {
         ]
     }
 
-    fn moved_parts(&self, point: usize) -> Vec<Part> {
-        let met: Vec<usize> = self.walk(point).collect();
-        let n = met.len() as u64;
-        let own = met[0];
-        let mut parts = vec![(own, n * (4 * n - 7))];
-        parts.extend(met.iter().flat_map(|&c| [(across(c), 6), (diagonal(c), 1)]));
+    fn moved_parts(&self, point: usize, parts: &mut Vec<Part>) {
+        let own = self.tables().starts[point] as usize;
+        let mut marked = Marked::default();
+        parts.push((own, 0));
+        for c in self.walk(point) {
+            parts.extend([(across(c), 6), (diagonal(c), 1)]);
+            marked.meet(c, self.tables().marks[off_edge_at(c)]);
+        }
+        let n = parts.len() as u32 / 2;
+        parts[0].1 = n * (4 * n - 7);
 
-        // The off-edge at a corner is the half-edge that leaves or reaches it with an odd number.
-        let mark_at = |c: usize| self.mark(if c % 2 == 1 { c } else { previous(c) });
-        let marked: Vec<usize> = met.iter().copied().filter(|&c| mark_at(c) != 0).collect();
-        let m = marked.len() as u64;
-        let sharp = if marked.iter().any(|&c| mark_at(c) == INFINITE) {
-            256 * m
-        } else {
-            marked.iter().map(|&c| u64::from(mark_at(c))).sum::<u64>().min(256 * m)
-        };
         let whole = 4 * n * n;
-        match m {
+        let sharp = marked.sharpness();
+        match marked.count {
             0 | 1 => (),
             2 => {
                 parts.iter_mut().for_each(|(_, w)| *w *= 8 * (512 - sharp));
                 parts.push((own, 6 * whole * sharp));
-                parts.extend(marked.iter().map(|&c| (across(c), whole * sharp)));
+                parts.extend(marked.first.map(|c| (across(c), whole * sharp)));
             }
-            _ => {
+            m => {
                 parts.iter_mut().for_each(|(_, w)| *w *= 256 * m - sharp);
                 parts.push((own, whole * sharp));
             }
         }
-        parts
     }
 }
 
@@ -203,12 +226,16 @@ mod tests {
         let mut random = Random::new(31);
         for mesh in lawful_samples(&mut random, 150) {
             let Counts { quads, points } = mesh.counts();
-            let weight = |origin| mesh.parts(origin).iter().map(|&(_, w)| w).sum::<u64>();
+            let mut parts = Vec::new();
+            let mut weight = |origin| {
+                mesh.parts(origin, &mut parts);
+                parts.iter().map(|&(_, w)| u64::from(w)).sum::<u64>()
+            };
             assert!((0..quads).all(|q| weight(Origin::Face(q)) == 4));
             assert!((0..2 * quads).all(|e| weight(Origin::Edge(e)) == 4_096));
             for v in 0..points {
                 let n = mesh.valence(v) as u64;
-                let m = mesh.walk(v).filter(|&c| mesh.tables().marks[crate::mesh::off_edge_at(c)] != 0).count() as u64;
+                let m = mesh.walk(v).filter(|&c| mesh.tables().marks[off_edge_at(c)] != 0).count() as u64;
                 let times = match m {
                     0 | 1 => 1,
                     2 => 4_096,
