@@ -245,7 +245,7 @@ pub fn damage(tables: &mut Tables, random: &mut Random) {
 /// Changes that leave each table by itself in order, so that the later causes are reached too.
 fn damage_whole(tables: &mut Tables, random: &mut Random) {
     let Counts { quads, points } = tables.counts();
-    match random.below(5) {
+    match random.below(6) {
         // The point that comes at the end becomes one with another, whose walk then misses corners.
         0 if points > 1 => {
             let (end, other) = (points as u32 - 1, random.below(points - 1) as u32);
@@ -267,8 +267,10 @@ fn damage_whole(tables: &mut Tables, random: &mut Random) {
                 tables.friends[o] = tables.friends[p];
             }
         }
+        // A quad folded on itself, whose tip is a point of its own or one that is there already.
+        3 if quads > 0 && tables.friends.len() == 2 * quads => fold_in(tables, random),
         // A part of the quads and points.
-        3 => {
+        4 => {
             let (quads, points) = (random.below(quads + 1), random.below(points + 1));
             tables.corners.truncate(4 * quads);
             tables.friends.truncate(2 * quads);
@@ -278,6 +280,25 @@ fn damage_whole(tables: &mut Tables, random: &mut Random) {
         // A walk that is too long beside the rest.
         _ => *tables = side_by_side(&[tables.clone(), spindle(65 + random.below(3))]),
     }
+}
+
+/// Opens an edge and sets in a quad of which one off-edge is glued to the edge beside it. The walk round its tip, corner 1,
+/// is back after one step.
+fn fold_in(tables: &mut Tables, random: &mut Random) {
+    let Counts { quads, points } = tables.counts();
+    let opened = random.below(2 * quads);
+    let begin = 2 * opened + 1;
+    let (from, to) = (tables.corners[begin], tables.corners[crate::mesh::next(begin)]);
+    let tip = if random.one_in(3) {
+        tables.starts.push(4 * quads as u32 + 1);
+        points as u32
+    } else {
+        tables.corners[2 * random.below(2 * quads) + 1]
+    };
+    tables.corners.extend([to, tip, to, from]);
+    tables.friends.extend([2 * quads as u32, tables.friends[opened]]);
+    tables.friends[opened] = 2 * quads as u32 + 1;
+    tables.marks.extend([0, 0]);
 }
 
 /// Changes a byte or a line, or a few.
