@@ -1,5 +1,5 @@
 -- What writing the standing level of a bench answers.
-use mathlib.Core.List.{List, []}
+use mathlib.Core.List.{List, [], _∷_}
 use mathlib.Core.Path.{_≡_}
 use Prim.Native.Nat.{ℕ}
 use lib.Dec.{ltb}
@@ -12,9 +12,13 @@ use Rattle.mesh.specs.Mesh.{Mesh}
 use Rattle.mesh.specs.Refusals.{Verdict, fine, told}
 use Rattle.mesh.specs.declared.fault.Fault.{Fault}
 use Rattle.lines.specs.Laws.{Text-of}
-use Rattle.lines.specs.Text.{mesh-text}
+use Rattle.lines.specs.Text.{line-text, mesh-text}
 use Rattle.chain.specs.Calls.{State, cause, missing}
 use Rattle.text.specs.Put.{Put}
+
+-- the frame of a refusal: kind ff, its number and its place
+abbrev pub frame-text : ℕ → ℕ → List ℕ
+frame-text number place = line-text 102 102 (number ∷ (place ∷ []))
 
 -- the text of the standing level
 abbrev pub text-of : Option Mesh → List ℕ

@@ -41,7 +41,7 @@ fn put_quads(corners: &[u32], friends: &[u32], marks: &[u32], out: &mut [u8], at
             marks[o],
             marks[o + 1],
         ];
-        p = put_line(QUAD, &row, out, p);
+        p = put_line(b'0', QUAD, &row, out, p);
     }
     p
 }
@@ -53,7 +53,7 @@ fn put_starts(starts: &[u32], out: &mut [u8], at: usize) -> usize
 {
     let mut p = at;
     for start in starts {
-        p = put_line(START, &[*start], out, p);
+        p = put_line(b'0', START, &[*start], out, p);
     }
     p
 }
@@ -80,7 +80,7 @@ fn put_text(level: &Tables<'_>, out: &mut [u8]) -> usize
     ensures { λ end. ⌜ Put (now (out .entry)) 0 (mesh-text (mesh (now (level .entry)))) end (now (out .exit)) ⌝ }
 {
     let counts = [level.quads() as u32, level.starts.len() as u32];
-    let p = put_line(COUNTS, &counts, out, 0);
+    let p = put_line(b'0', COUNTS, &counts, out, 0);
     let q = put_quads(level.corners, level.friends, level.marks, out, p);
     put_starts(level.starts, out, q)
 }

@@ -1,4 +1,5 @@
-// A bench loaded from text, and its standing level written as text.
+// A bench loaded from text, its standing level written as text, and refusals as frames.
+pub mod frame;
 mod level;
 pub mod load;
 mod put;

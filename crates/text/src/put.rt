@@ -79,13 +79,13 @@ pub(crate) fn put_words(words: &[u32], out: &mut [u8], at: usize) -> usize
     p
 }
 
-// Writes a line of the kind 0, `kind` from `at` on; the place after it.
-pub(crate) fn put_line(kind: u8, words: &[u32], out: &mut [u8], at: usize) -> usize
-    requires { ⌜ at + length (line-text 48 kind (now words)) ≤ length (now out) ⌝ }
-    ensures { λ end. ⌜ Put (now (out .entry)) at (line-text 48 kind (now (words .entry))) end (now (out .exit)) ⌝ }
+// Writes a line of the kind a, b from `at` on; the place after it.
+pub(crate) fn put_line(a: u8, b: u8, words: &[u32], out: &mut [u8], at: usize) -> usize
+    requires { ⌜ at + length (line-text a b (now words)) ≤ length (now out) ⌝ }
+    ensures { λ end. ⌜ Put (now (out .entry)) at (line-text a b (now (words .entry))) end (now (out .exit)) ⌝ }
 {
-    put_byte(b'0', out, at);
-    put_byte(kind, out, at + 1);
+    put_byte(a, out, at);
+    put_byte(b, out, at + 1);
     let end = put_words(words, out, at + 2);
     put_byte(b'\n', out, end);
     end + 1
