@@ -4,6 +4,7 @@ ghost use Rattle.bench.specs.State.{Few, Room, Stands, Works, Count};
 pub mod calls;
 pub mod questions;
 pub mod slip;
+pub mod withdraw;
 
 use crate::stage::Stage;
 use crate::words::Words;

@@ -1,1 +1,2 @@
 mod Through
+mod Fits

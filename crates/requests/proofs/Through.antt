@@ -10,7 +10,11 @@ use Rattle.std.proofs.shelf.Tests.{cases-lt}
 use Rattle.chain.specs.Calls.{Call, State, next}
 use Rattle.chain.specs.Clauses.{Goes-on-through, run-on}
 use Rattle.chain.proofs.Runs.{through-run}
-use Rattle.requests.specs.Sessions.{Session, Reply, calls-of, play, plays, calls-made, reply-of, replies, told-reply}
+use Rattle.mesh.specs.Refusals.{Verdict, fine, declined}
+use Rattle.std.specs.declared.option.Option.{Option}
+use Rattle.std.specs.declared.option.Option.the-variants.{None}
+use Rattle.requests.proofs.Fits.{Fits, fits-plays}
+use Rattle.requests.specs.Sessions.{Session, Reply, closing, all-calls, calls-of, play, plays, calls-made, reply-of, replies, told-reply}
 use Rattle.requests.specs.declared.request.Request.{Request}
 use Rattle.requests.specs.declared.request.Answer.{Answer}
 
@@ -61,3 +65,22 @@ same-front ys rs n i e h k =
       | inl b ↦ let z : length rs ≡ i = omega arith in ap (λ x. take x ys) z
       | inr b ↦ take-all (length rs) ys (omega arith) ∙ sym (take-all i ys (omega arith))
     ]
+
+-- and the slip that is still held is withdrawn
+module _ (store : List ℕ) (s : State) (rs : List Request) (middle : State) (h : Option ℕ)
+    (e : _≡_ {A = Session} (record { bench = middle; held = h }) (plays store (record { bench = s; held = None }) rs)) where
+  pub closed : (exit : State) → exit ≡ run-on middle (closing h) → exit ≡ run-on s (all-calls store s rs)
+  closed exit k =
+      let t : Session = record { bench = s; held = None } in
+      k ∙ ap (λ (u : Session). run-on (u .bench) (closing (u .held))) e ∙ ap (λ x. run-on x (closing (plays store t rs .held))) (plays-run store t rs)
+      ∙ sym (run-on-append s (calls-made store t rs) (closing (plays store t rs .held)))
+
+  -- so it is the slip of that bench
+  pub fits-held : Fits middle h
+  fits-held = subst (λ (u : Session). Fits (u .bench) (u .held)) (sym e) (fits-plays store (record { bench = s; held = None }) rs tt)
+
+pub through-all : (s exit : State) (cs : List Call) → exit ≡ run-on s cs → Goes-on-through s cs exit
+through-all s exit cs e = subst (λ x. Goes-on-through s cs x) (sym e) (through-run s cs)
+
+pub never-refused : {A : Type 0} (v : Verdict) (n p : ℕ) → declined n p ≡ v → v ≡ fine → A
+never-refused v n p a b = let z : _≡_ {A = ℕ} 0 1 = cc in absurd (omega arith)

@@ -100,3 +100,12 @@ told-reply Nothing = no-call
 told-reply Done = done
 told-reply (Left n) = tasks-left n
 told-reply (Refused f) = refused (number-of f) (place-of f)
+
+-- a slip that is still held at the end is withdrawn
+abbrev pub closing : Option ℕ → List Call
+closing None = []
+closing (Some m) = withdraw m ∷ []
+
+abbrev pub all-calls : List ℕ → State → List Request → List Call
+all-calls store s rs =
+    calls-made store (record { bench = s; held = None }) rs ++ closing (plays store (record { bench = s; held = None }) rs .held)

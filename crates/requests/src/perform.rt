@@ -2,10 +2,11 @@ ghost use Prim.Native.Nat.{ℕ, _^_, _<_};
 ghost use mathlib.Core.List.{map};
 ghost use mathlib.Core.Path.{_≡_};
 ghost use lib.ListN.{length, take};
-ghost use Rattle.chain.specs.Clauses.{After, Goes-on-through, Made};
+ghost use Rattle.std.specs.declared.option.Option.the-variants.{None as nothing};
+ghost use Rattle.chain.specs.Clauses.{After, Goes-on-through, Made, run-on};
 ghost use Rattle.layout.specs.Layout.{block};
 ghost use Rattle.bench.specs.Model.{state};
-ghost use Rattle.requests.specs.Sessions.{Session, held-mark, play, plays, calls-made, reply-of, replies, told-reply, load-from};
+ghost use Rattle.requests.specs.Sessions.{Session, held-mark, play, plays, calls-made, all-calls, reply-of, replies, told-reply, load-from};
 use crate::request::Answer;
 use crate::request::Extent;
 use crate::request::Request;
@@ -120,4 +121,20 @@ pub fn perform(
         answers[i] = answer;
     }
     held
+}
+
+// The requests, from no slip held. One that is still held at the end closes the level in work, so it is withdrawn.
+pub fn work(bench: &mut Bench<'_>, store: &[u32], requests: &[Request], answers: &mut [Answer])
+    ensures promise { λ _. ⌜ Goes-on-through (state (now (bench .entry))) (all-calls (now (store .entry)) (state (now (bench .entry))) (take (length (now (answers .entry))) (now (requests .entry)))) (state (now (bench .exit))) ⌝ }
+    ensures after { λ _. ⌜ state (now (bench .exit)) ≡ run-on (state (now (bench .entry))) (all-calls (now (store .entry)) (state (now (bench .entry))) (take (length (now (answers .entry))) (now (requests .entry)))) ⌝ }
+    ensures made { λ _. ⌜ ((words mark : ℕ) → Made words mark (state (now (bench .entry))) → After words mark (all-calls (now (store .entry)) (state (now (bench .entry))) (take (length (now (answers .entry))) (now (requests .entry)))) (state (now (bench .exit)))) ⌝ }
+    ensures gave { λ _. ⌜ map told-reply (take (length (now (requests .entry))) (now (answers .exit))) ≡ replies (now (store .entry)) (record { bench = state (now (bench .entry)); held = nothing }) (take (length (now (answers .entry))) (now (requests .entry))) ⌝ }
+{
+    match perform(bench, None, store, requests, answers) {
+        None => (),
+        Some(slip) => match bench.withdraw(slip) {
+            Ok(()) => (),
+            Err(_) => unreachable(),
+        },
+    }
 }

@@ -1,7 +1,7 @@
 ghost use denote.Ref.{now as held};
 ghost use lib.ListN.{length};
 ghost use Rattle.mesh.specs.Refusals.{told};
-ghost use Rattle.chain.specs.Calls.{load, begin, quad as quad-call, point as point-call, finish, withdraw, left};
+ghost use Rattle.chain.specs.Calls.{load, begin, quad as quad-call, point as point-call, finish, left};
 ghost use Rattle.chain.specs.Clauses.{Called, Made};
 ghost use Rattle.bench.specs.Model.{state, Bears, Counts, told-slip, Comes-back};
 use super::Bench;
@@ -163,35 +163,6 @@ impl<'a> Bench<'a> {
                     .bring_down(8 * quads + points, 35 * quads + points);
                 self.points = self.points + 3 * self.quads;
                 self.quads = 4 * self.quads;
-                self.left = 0;
-                self.stage = Stage::Standing;
-                Ok(())
-            }
-        }
-    }
-
-    // Drops the level in work.
-    pub fn withdraw(&mut self, slip: Slip) -> Result<(), Declined>
-        ensures call { λ r. ⌜ Called (state (now (self .entry))) (withdraw (slip .mark)) (state (now (self .exit))) (told-slip r) ⌝ }
-        ensures slip { λ r. ⌜ Comes-back r (slip .mark) ⌝ }
-    {
-        match self.stage {
-            Stage::Empty => Err(Declined {
-                fault: Fault::NoStandingLevel,
-                slip,
-            }),
-            Stage::Standing => Err(Declined {
-                fault: Fault::NoLevelInWork,
-                slip,
-            }),
-            Stage::Working => {
-                if slip.mark() != self.mark {
-                    return Err(Declined {
-                        fault: Fault::OtherSlip,
-                        slip,
-                    });
-                }
-                slip.spend();
                 self.left = 0;
                 self.stage = Stage::Standing;
                 Ok(())
