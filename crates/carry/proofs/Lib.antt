@@ -1,0 +1,4 @@
+pub mod Made
+pub mod Right
+pub mod Mixes
+pub mod Walks

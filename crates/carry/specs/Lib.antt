@@ -1,0 +1,4 @@
+pub mod Rows
+pub mod Corners
+pub mod Mixes
+pub mod Walks

@@ -1,0 +1,7 @@
+// Values and corner values of the next level, computed from those of the standing level, for every kind.
+mod around;
+mod corners;
+pub mod lent;
+mod mix;
+mod rows;
+mod seen;
