@@ -10,12 +10,12 @@ use lib.ListN.{length}
 use Rattle.std.specs.Iters.{counting}
 use Rattle.std.specs.shelf.Lists.{kept-by, sum}
 use Rattle.std.proofs.shelf.Counted.{kept-by-map-counting-more, length-map-counting}
-use Rattle.std.proofs.shelf.Lists.{length-push, map-push}
+use Rattle.std.proofs.shelf.Lists.{append-nil, length-push, map-push}
 use Rattle.std.proofs.shelf.Sums.{countBy-le-length, length-kept-by, sumBy-push}
 use Rattle.std.proofs.shelf.Tests.{cases-bool, cases-eq, cond-false, cond-true, eq-eqb, lt-ltb, ne-eqb}
-use Rattle.mesh.specs.Mesh.{Mesh, mark, off-edge, start, walk, valence, longest}
-use Rattle.refinement.proofs.Walks.{walk-back, walk-not-back}
-use Rattle.carried.specs.Blends.{around, marked, sharpness, some-infinite}
+use Rattle.mesh.specs.Mesh.{Mesh, Sound, mark, off-edge, start, walk, valence, longest}
+use Rattle.refinement.proofs.Walks.{walk-back, walk-below, walk-not-back}
+use Rattle.carried.specs.Blends.{around, diagonal, marked, other-end, sharpness, some-infinite}
 use Rattle.carry.specs.Walks.{Seen, marked-met, marks-at, met}
 use Rattle.carry.specs.declared.seen.Around.{Around}
 
@@ -110,3 +110,28 @@ seen-on m v n c k b e z s =
     subst (λ cs. Seen m cs b)
     (ap (λ c. marked-met m v n ++ cond (ltb 0 (mark m (off-edge c))) (c ∷ []) []) e ∙ met-more m v n ∙ ap (marked-met m v) (sym z))
     s
+
+-- the corner of a walk, the other end of its off-edge, and the corner opposite
+module _ (m : Mesh) (w : Sound m) (v i c : ℕ) (h : v < m .points) (e : c ≡ walk m v i) where
+  pub on-walk : c < 4 * m .quads
+  on-walk = let l = walk-below m w v i h in omega arith
+
+  pub other-on-walk : other-end c < 4 * m .quads
+  unfolding other-end
+  other-on-walk = let l = on-walk in omega arith
+
+  pub opposite-on-walk : diagonal c < 4 * m .quads
+  unfolding diagonal
+  opposite-on-walk = let l = on-walk in omega arith
+
+-- the marked corners with one more, by its mark
+module _ (m : Mesh) (v n c : ℕ) (e : c ≡ walk m v n) where
+  pub met-marked : true ≡ ltb 0 (mark m (off-edge c)) → marked-met m v n ++ c ∷ [] ≡ marked-met m v (n + 1)
+  met-marked t =
+      ap (λ l. marked-met m v n ++ l) (sym (cond-true _ _ _ (sym t)))
+      ∙ ap (λ c. marked-met m v n ++ cond (ltb 0 (mark m (off-edge c))) (c ∷ []) []) e ∙ met-more m v n
+
+  pub met-smooth : false ≡ ltb 0 (mark m (off-edge c)) → marked-met m v n ≡ marked-met m v (n + 1)
+  met-smooth f =
+      sym (append-nil (marked-met m v n)) ∙ ap (λ l. marked-met m v n ++ l) (sym (cond-false (ltb 0 (mark m (off-edge c))) (c ∷ []) [] (sym f)))
+      ∙ ap (λ c. marked-met m v n ++ cond (ltb 0 (mark m (off-edge c))) (c ∷ []) []) e ∙ met-more m v n

@@ -2,3 +2,4 @@ pub mod Rows
 pub mod Corners
 pub mod Mixes
 pub mod Walks
+pub mod Slots

@@ -3,5 +3,7 @@ mod around;
 mod corners;
 pub mod lent;
 mod mix;
+mod moved;
 mod rows;
 mod seen;
+mod values;
