@@ -5,3 +5,4 @@ pub mod Walks
 pub mod Rounds
 pub mod Creases
 pub mod Slots
+pub mod Asks

@@ -3,3 +3,4 @@ pub mod Corners
 pub mod Mixes
 pub mod Walks
 pub mod Slots
+pub mod Asked

@@ -6,4 +6,5 @@ mod mix;
 mod moved;
 mod rows;
 mod seen;
+pub mod standing;
 mod values;

@@ -1,5 +1,6 @@
 // Each function's contract is a promise, proved in proofs/.
 ghost use Rattle.chain.specs.Cases.{Pillow-chains, Refused-loads, Text-chains};
+ghost use Rattle.chain.specs.Causes.{Calls-refused-in-order};
 ghost use Rattle.chain.specs.Clauses.{Call-by-call, Texts-load-as-tables};
 ghost use Rattle.chain.specs.Promise.{Every-chain-keeps-the-mesh};
 
@@ -20,6 +21,13 @@ pub fn call_by_call() -> u8
 // A text that is read is loaded as its tables are, and else refused with what reading says.
 pub fn texts_load_as_tables() -> u8
     ensures { λ _. ⌜ Texts-load-as-tables ⌝ }
+{
+    0
+}
+
+// A call is refused for its first cause at its first place, and carried out where it has no cause.
+pub fn calls_refused_in_order() -> u8
+    ensures { λ _. ⌜ Calls-refused-in-order ⌝ }
 {
     0
 }

@@ -1,9 +1,9 @@
-mod Words
+pub mod Words
 pub mod LineWords
 mod Rule
 mod Bodies
-mod Exactly
-mod Finds
+pub mod Exactly
+pub mod Finds
 mod Laying
 mod RowsRead
 mod TextRows

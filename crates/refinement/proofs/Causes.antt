@@ -16,13 +16,13 @@ use Rattle.refinement.proofs.Tests.{Tells, denies, decides, shape-tells, quads
 use Rattle.refinement.proofs.Totals.{least-is, least-none, least-fails, least-passes}
 use Rattle.refinement.proofs.Walks.{valence-is, walk-back, walk-not-back}
 
-declined-not-fine : (k p : ℕ) → declined k p ≡ fine → ⊥
+pub declined-not-fine : (k p : ℕ) → declined k p ≡ fine → ⊥
 declined-not-fine k p e = let z : _≡_ {A = ℕ} 0 1 = cc in omega arith
 
-same-number : (k p j q : ℕ) → declined k p ≡ declined j q → k ≡ j
+pub same-number : (k p j q : ℕ) → declined k p ≡ declined j q → k ≡ j
 same-number k p j q e = cc
 
-same-place : (k p j q : ℕ) → declined k p ≡ declined j q → p ≡ q
+pub same-place : (k p j q : ℕ) → declined k p ≡ declined j q → p ≡ q
 same-place k p j q e = cc
 
 not-below : (a b : ℕ) → (a < b → ⊥) → b ≤ a
@@ -60,7 +60,7 @@ module _ (m : Mesh) where
   says k p (not-back e l h) = subst (λ x. Says x p) (sym e) (l, h)
   says k p (unmet e z c l h) = subst (λ x. Says x p) (sym e) (c, l, h)
 
-  number-below : (k p : ℕ) → Cause m k p → k < 11
+  pub number-below : (k p : ℕ) → Cause m k p → k < 11
   number-below k p (wrong-shape e z h) = omega arith
   number-below k p (too-few-quads e z h) = omega arith
   number-below k p (too-many-quads e z h) = omega arith
@@ -184,7 +184,7 @@ module _ (m : Mesh) where
       }
 
   -- a lawful mesh has no cause
-  no-cause : Lawful m → (k p : ℕ) → Cause m k p → ⊥
+  pub no-cause : Lawful m → (k p : ℕ) → Cause m k p → ⊥
   no-cause w k p (wrong-shape e z h) = h (w .sound .counted)
   no-cause w k p (too-few-quads e z h) = let x = w .sound .quads-enough in omega arith
   no-cause w k p (too-many-quads e z h) = let x = w .sound .quads-few in omega arith

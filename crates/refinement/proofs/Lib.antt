@@ -16,3 +16,4 @@ pub mod Keeps
 pub mod Halves
 pub mod Pillow
 pub mod Loops
+pub mod OneProof

@@ -1,0 +1,4 @@
+mod Tasks
+mod Steps
+mod Keeps
+mod Asks

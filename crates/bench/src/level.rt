@@ -1,0 +1,6 @@
+// Which level a question is about.
+#[derive(Clone, Copy)]
+pub enum Level {
+    Standing,
+    InWork,
+}

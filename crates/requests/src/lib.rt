@@ -1,0 +1,3 @@
+// Lists of requests to a bench.
+pub mod perform;
+pub mod request;

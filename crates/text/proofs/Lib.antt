@@ -1,0 +1,5 @@
+mod Writes
+mod LinesOf
+mod Sizes
+mod Texts
+mod Returns
