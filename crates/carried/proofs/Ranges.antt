@@ -21,7 +21,7 @@ use Rattle.carried.proofs.Levels.{earlier, lawful-at}
 use Rattle.carried.proofs.Weights.{all-counting, fit-at, old-parts, face-parts, edge-parts}
 
 module _ {V : Type 0} where
-  values-total : (d : V) (xs : List V) (ps : List (ℕ × ℕ)) → total (values-at d xs ps) ≡ total ps
+  pub values-total : (d : V) (xs : List V) (ps : List (ℕ × ℕ)) → total (values-at d xs ps) ≡ total ps
   values-total d xs [] = refl
   values-total d xs (p ∷ ps) = ap (λ n. p .1 + n) (values-total d xs ps)
 

@@ -62,7 +62,7 @@ module _ {V : Type 0} (middle : V → V → V) where
   same-row a b c d a′ b′ c′ d′ z j ea eb ec ed = λ i. getD (new-quads middle (ea i) (eb i) (ec i) (ed i)) j z
 
   -- the sixteen values of quad q
-  quad-row : List V → V → ℕ → List V
+  unfoldable pub quad-row : List V → V → ℕ → List V
   quad-row xs z q = new-quads middle (getD xs (4 * q) z) (getD xs (4 * q + 1) z) (getD xs (4 * q + 2) z) (getD xs (4 * q + 3) z)
 
   row-at : (n : ℕ) (xs : List V) (z : V) → length xs ≡ 4 * n → (q j : ℕ) → q < n → j < 16 → getD (corners middle xs) (16 * q + j) z ≡ getD (quad-row xs z q) j z
@@ -85,7 +85,7 @@ module _ {V : Type 0} (middle : V → V → V) where
   row-at n (a ∷ b ∷ c ∷ []) z h q j l k = absurd (omega arith)
 
   module _ (n : ℕ) (xs : List V) (z : V) (count : length xs ≡ 4 * n) where
-    at-row : (q j s : ℕ) → q < n → j < 16 → s ≡ 16 * q + j → getD (corners middle xs) s z ≡ getD (quad-row xs z q) j z
+    pub at-row : (q j s : ℕ) → q < n → j < 16 → s ≡ 16 * q + j → getD (corners middle xs) s z ≡ getD (quad-row xs z q) j z
     at-row q j s h l e = ap (λ i. getD (corners middle xs) i z) e ∙ row-at n xs z count q j h l
 
     -- the corners of new quad c: the value at c, the middle to the next corner, the centre, the middle from the previous corner

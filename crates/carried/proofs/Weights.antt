@@ -32,26 +32,26 @@ module _ {V : Type 0} where
   left-over [] h = absurd (omega arith)
   left-over (p ∷ ps) h = omega arith
 
-  total-map : {X : Type 0} (f : X → V) (k : ℕ) (xs : List X) → total (map (λ x. (f x, k)) xs) ≡ length xs * k
+  pub total-map : {X : Type 0} (f : X → V) (k : ℕ) (xs : List X) → total (map (λ x. (f x, k)) xs) ≡ length xs * k
   total-map f k [] = omega arith
   total-map f k (x ∷ xs) = let r = total-map f k xs in let d = add-mul 1 (length xs) k in omega arith
 
-total-times : (k : ℕ) (ps : List (ℕ × ℕ)) → total (times k ps) ≡ k * total ps
+pub total-times : (k : ℕ) (ps : List (ℕ × ℕ)) → total (times k ps) ≡ k * total ps
 total-times k [] = omega arith
 total-times k (p ∷ ps) = let r = total-times k ps in let d = mul-add k (p .1) (total ps) in omega arith
 
 -- ---- sums of weights
-product-le : (a b c d : ℕ) → a ≤ c → b ≤ d → a * b ≤ c * d
+pub product-le : (a b c d : ℕ) → a ≤ c → b ≤ d → a * b ≤ c * d
 product-le a b c d h k = mul-le-mul h k
 
-smooth-sum : (n : ℕ) → 2 ≤ n → n * (4 * n - 7) + 7 * n ≡ 4 * (n * n)
+pub smooth-sum : (n : ℕ) → 2 ≤ n → n * (4 * n - 7) + 7 * n ≡ 4 * (n * n)
 smooth-sum n h =
     let e : 4 * n - 7 + 7 ≡ 4 * n = omega arith in
     let d = mul-add n (4 * n - 7) 7 in
     let f : n * (4 * n - 7 + 7) ≡ n * (4 * n) = ap (λ x. n * x) e in
     omega arith
 
-crease-sum : (x s : ℕ) → s ≤ 512 → 8 * (512 - s) * x + (6 * (x * s) + 2 * (x * s)) ≡ x * 4096
+pub crease-sum : (x s : ℕ) → s ≤ 512 → 8 * (512 - s) * x + (6 * (x * s) + 2 * (x * s)) ≡ x * 4096
 crease-sum x s h =
     let e : 512 - s + s ≡ 512 = omega arith in
     let d = mul-add x (512 - s) s in
@@ -60,7 +60,7 @@ crease-sum x s h =
     let c = mul-comm (512 - s) x in
     omega arith
 
-corner-sum : (x s k : ℕ) → s ≤ k → (k - s) * x + (x * s + 0) ≡ x * k
+pub corner-sum : (x s k : ℕ) → s ≤ k → (k - s) * x + (x * s + 0) ≡ x * k
 corner-sum x s k h =
     let e : k - s + s ≡ k = omega arith in
     let d = mul-add x (k - s) s in
@@ -92,7 +92,7 @@ ends-below : (o n : ℕ) → o < 2 * n → ends o < 4 * n
 unfolding ends
 ends-below o n h = omega arith
 
-total-round : (m : Mesh) (cs : List ℕ) → total (joined (λ c. (point m (other-end c), 6) ∷ (point m (diagonal c), 1) ∷ []) cs) ≡ 7 * length cs
+pub total-round : (m : Mesh) (cs : List ℕ) → total (joined (λ c. (point m (other-end c), 6) ∷ (point m (diagonal c), 1) ∷ []) cs) ≡ 7 * length cs
 total-round m [] = omega arith
 total-round m (c ∷ cs) = let r = total-round m cs in omega arith
 
@@ -104,15 +104,15 @@ min-at-most : (a b : ℕ) → min a b ≤ b
 min-at-most a b = omega arith
 
 module _ (m : Mesh) (v : ℕ) where
-  around-length : length (around m v) ≡ valence m v
+  pub around-length : length (around m v) ≡ valence m v
   unfolding around
   around-length = length-map-counting (walk m v) 0 (valence m v)
 
-  sharp-most : sharpness m v ≤ 256 * length (marked m v)
+  pub sharp-most : sharpness m v ≤ 256 * length (marked m v)
   unfolding sharpness
   sharp-most = cond-both (some-infinite (map (λ c. mark m (off-edge c)) (marked m v))) _ _ (λ s. s ≤ 256 * length (marked m v)) (λ e. omega arith) (λ e. min-at-most _ _)
 
-  marked-few : length (marked m v) ≤ valence m v
+  pub marked-few : length (marked m v) ≤ valence m v
   unfolding marked
   marked-few =
       let p : ℕ → Bool = λ c. ltb 0 (mark m (off-edge c)) in
@@ -122,7 +122,7 @@ module _ (m : Mesh) (v : ℕ) where
       omega arith
 
   module _ (two : shortest ≤ valence m v) where
-    smooth-total : total (smooth m v) ≡ 4 * (valence m v * valence m v)
+    pub smooth-total : total (smooth m v) ≡ 4 * (valence m v * valence m v)
     unfolding smooth
     smooth-total =
         let a = total-round m (around m v) in
@@ -152,15 +152,15 @@ module _ (m : Mesh) (v : ℕ) where
         ∙ (λ i. (k - s) * smooth-total i + (x * s + 0))
         ∙ corner-sum x s k sharp-most
 
-    moved-smooth : length (marked m v) < 2 → moved m v ≡ smooth m v
+    pub moved-smooth : length (marked m v) < 2 → moved m v ≡ smooth m v
     unfolding moved
     moved-smooth h = cond-true _ _ _ (lt-ltb (length (marked m v)) 2 h)
 
-    moved-creased : length (marked m v) ≡ 2 → moved m v ≡ creased m v
+    pub moved-creased : length (marked m v) ≡ 2 → moved m v ≡ creased m v
     unfolding moved
     moved-creased h = cond-false _ _ _ (le-ltb (length (marked m v)) 2 (omega arith)) ∙ cond-true _ _ _ (eq-eqb (length (marked m v)) 2 h)
 
-    moved-cornered : 2 < length (marked m v) → moved m v ≡ cornered m v
+    pub moved-cornered : 2 < length (marked m v) → moved m v ≡ cornered m v
     unfolding moved
     moved-cornered h = cond-false _ _ _ (le-ltb (length (marked m v)) 2 (omega arith)) ∙ cond-false _ _ _ (ne-eqb (length (marked m v)) 2 (λ e. omega arith))
 
@@ -178,7 +178,7 @@ module _ (m : Mesh) (v : ℕ) where
       squares-low : 16 ≤ 4 * (valence m v * valence m v)
       squares-low = let a : 2 * 2 ≤ valence m v * valence m v = mul-le-mul two two in omega arith
 
-      squares-high : 4 * (valence m v * valence m v) ≤ 4 * (longest * longest)
+      pub squares-high : 4 * (valence m v * valence m v) ≤ 4 * (longest * longest)
       squares-high = let a : valence m v * valence m v ≤ longest * longest = mul-le-mul most most in omega arith
 
       moved-some : 0 < total (moved m v)
