@@ -1,0 +1,2 @@
+// A bench refined by one level.
+pub mod once;
