@@ -59,28 +59,28 @@ pub struct Words<'a> {
 
 impl<'a> Words<'a> {
     // The words of a level of so many quads that begins at `base`.
-    pub fn corner(&self, base: usize, quads: usize, corner: usize) -> u32
+    pub(crate) fn corner(&self, base: usize, quads: usize, corner: usize) -> u32
         requires { ⌜ corner < 4 * quads ⌝ ∗ ⌜ base + 4 * quads ≤ length (held (now self .cells)) ⌝ }
         ensures { λ r. ⌜ r ≡ getD (block (held (now (self .entry) .cells)) base (4 * quads)) corner 0 ⌝ }
     {
         self.cells[base + corner]
     }
 
-    pub fn friend(&self, base: usize, quads: usize, off: usize) -> u32
+    pub(crate) fn friend(&self, base: usize, quads: usize, off: usize) -> u32
         requires { ⌜ off < 2 * quads ⌝ ∗ ⌜ base + 6 * quads ≤ length (held (now self .cells)) ⌝ }
         ensures { λ r. ⌜ r ≡ getD (block (held (now (self .entry) .cells)) (base + 4 * quads) (2 * quads)) off 0 ⌝ }
     {
         self.cells[base + 4 * quads + off]
     }
 
-    pub fn mark(&self, base: usize, quads: usize, off: usize) -> u32
+    pub(crate) fn mark(&self, base: usize, quads: usize, off: usize) -> u32
         requires { ⌜ off < 2 * quads ⌝ ∗ ⌜ base + 8 * quads ≤ length (held (now self .cells)) ⌝ }
         ensures { λ r. ⌜ r ≡ getD (block (held (now (self .entry) .cells)) (base + 6 * quads) (2 * quads)) off 0 ⌝ }
     {
         self.cells[base + 6 * quads + off]
     }
 
-    pub fn start(&self, base: usize, quads: usize, points: usize, point: usize) -> u32
+    pub(crate) fn start(&self, base: usize, quads: usize, points: usize, point: usize) -> u32
         requires { ⌜ point < points ⌝ ∗ ⌜ base + (8 * quads + points) ≤ length (held (now self .cells)) ⌝ }
         ensures { λ r. ⌜ r ≡ getD (block (held (now (self .entry) .cells)) (base + 8 * quads) points) point 0 ⌝ }
     {
@@ -88,7 +88,7 @@ impl<'a> Words<'a> {
     }
 
     // Writes a row of words side by side.
-    pub fn put_row(&mut self, at: usize, row: &[u32])
+    pub(crate) fn put_row(&mut self, at: usize, row: &[u32])
         requires { ⌜ at + length (now row) ≤ length (held (now self .cells)) ⌝ }
         ensures { λ _. ⌜ held (now (self .exit) .cells) ≡ put (side-by-side at 0 (now (row .entry))) (held (now (self .entry) .cells)) ⌝ }
     {
@@ -96,7 +96,7 @@ impl<'a> Words<'a> {
     }
 
     // What a quad task writes to the friends that begin at `at`.
-    pub fn put_friends(&mut self, at: usize, q: usize, g0: usize, g1: usize)
+    pub(crate) fn put_friends(&mut self, at: usize, q: usize, g0: usize, g1: usize)
         requires { ⌜ at + (8 * q + 8) ≤ length (held (now self .cells)) ⌝ ∗ ⌜ q < 2 ^ 18 ⌝ }
         requires { ⌜ at + (4 * g0 + 4) ≤ length (held (now self .cells)) ⌝ ∗ ⌜ g0 < 2 ^ 19 ⌝ }
         requires { ⌜ at + (4 * g1 + 4) ≤ length (held (now self .cells)) ⌝ ∗ ⌜ g1 < 2 ^ 19 ⌝ }
@@ -113,7 +113,7 @@ impl<'a> Words<'a> {
     }
 
     // What it writes to the marks.
-    pub fn put_marks(&mut self, at: usize, q: usize, g0: usize, g1: usize, m0: u32, m1: u32)
+    pub(crate) fn put_marks(&mut self, at: usize, q: usize, g0: usize, g1: usize, m0: u32, m1: u32)
         requires { ⌜ at + (8 * q + 8) ≤ length (held (now self .cells)) ⌝ ∗ ⌜ q < 2 ^ 18 ⌝ }
         requires { ⌜ at + (4 * g0 + 4) ≤ length (held (now self .cells)) ⌝ ∗ ⌜ g0 < 2 ^ 19 ⌝ }
         requires { ⌜ at + (4 * g1 + 4) ≤ length (held (now self .cells)) ⌝ ∗ ⌜ g1 < 2 ^ 19 ⌝ }
@@ -130,7 +130,7 @@ impl<'a> Words<'a> {
     }
 
     // What it writes to the starts.
-    pub fn put_starts(&mut self, at: usize, q: usize, g0: usize, g1: usize)
+    pub(crate) fn put_starts(&mut self, at: usize, q: usize, g0: usize, g1: usize)
         requires { ⌜ at + (4 * q + 2) ≤ length (held (now self .cells)) ⌝ ∗ ⌜ q < 2 ^ 18 ⌝ }
         requires { ⌜ at + (4 * (g0 / 2) + 4) ≤ length (held (now self .cells)) ⌝ ∗ ⌜ g0 < 2 ^ 19 ⌝ }
         requires { ⌜ at + (4 * (g1 / 2) + 4) ≤ length (held (now self .cells)) ⌝ ∗ ⌜ g1 < 2 ^ 19 ⌝ }
@@ -142,7 +142,7 @@ impl<'a> Words<'a> {
     }
 
     // The task of quad q of a standing level: the words of four new quads, and that it has run.
-    pub fn run_quad(&mut self, quads: usize, points: usize, q: usize)
+    pub(crate) fn run_quad(&mut self, quads: usize, points: usize, q: usize)
         requires room { ⌜ 44 * quads + 3 * points ≤ length (held (now self .cells)) ⌝ }
         requires few { ⌜ quads ≤ 2 ^ 18 ⌝ ∗ ⌜ points ≤ 2 * quads ⌝ }
         requires there { ⌜ q < quads ⌝ }
@@ -201,7 +201,7 @@ impl<'a> Words<'a> {
     }
 
     // The task of point v: its new start, and that it has run.
-    pub fn run_point(&mut self, quads: usize, points: usize, v: usize)
+    pub(crate) fn run_point(&mut self, quads: usize, points: usize, v: usize)
         requires room { ⌜ 44 * quads + 3 * points ≤ length (held (now self .cells)) ⌝ }
         requires few { ⌜ quads ≤ 2 ^ 18 ⌝ ∗ ⌜ points ≤ 2 * quads ⌝ }
         requires there { ⌜ v < points ⌝ }
@@ -216,7 +216,7 @@ impl<'a> Words<'a> {
     }
 
     // Whether a task of the level in work has yet to run.
-    pub fn waits(&self, quads: usize, points: usize, task: usize) -> bool
+    pub(crate) fn waits(&self, quads: usize, points: usize, task: usize) -> bool
         requires { ⌜ 44 * quads + 3 * points ≤ length (held (now self .cells)) ⌝ ∗ ⌜ task < quads + points ⌝ }
         ensures { λ r. ⌜ r ≡ eqb (getD (block (held (now (self .entry) .cells)) (43 * quads + 2 * points) (quads + points)) task 0) 0 ⌝ }
     {
@@ -224,7 +224,7 @@ impl<'a> Words<'a> {
     }
 
     // How many tasks are left once this one has run.
-    pub fn left_after(&self, quads: usize, points: usize, task: usize, left: u32) -> u32
+    pub(crate) fn left_after(&self, quads: usize, points: usize, task: usize, left: u32) -> u32
         requires { ⌜ 44 * quads + 3 * points ≤ length (held (now self .cells)) ⌝ ∗ ⌜ task < quads + points ⌝ }
         requires { ⌜ left ≡ countBy (λ w. eqb w 0) (block (held (now self .cells)) (43 * quads + 2 * points) (quads + points)) ⌝ }
         ensures { λ r. ⌜ r ≡ countBy (λ w. eqb w 0) (set (block (held (now (self .entry) .cells)) (43 * quads + 2 * points) (quads + points)) task 1) ⌝ }
@@ -237,7 +237,7 @@ impl<'a> Words<'a> {
     }
 
     // The lowest task that has yet to run, or the count of tasks.
-    pub fn lowest(&self, quads: usize, points: usize) -> usize
+    pub(crate) fn lowest(&self, quads: usize, points: usize) -> usize
         requires { ⌜ 44 * quads + 3 * points ≤ length (held (now self .cells)) ⌝ }
         ensures { λ r. ⌜ r ≡ least (λ i. eqb (getD (block (held (now (self .entry) .cells)) (43 * quads + 2 * points) (quads + points)) i 0) 0) (quads + points) ⌝ }
     {
@@ -250,7 +250,7 @@ impl<'a> Words<'a> {
     }
 
     // Moves `count` words from `from` on to the front.
-    pub fn bring_down(&mut self, from: usize, count: usize)
+    pub(crate) fn bring_down(&mut self, from: usize, count: usize)
         requires { ⌜ from + count ≤ length (held (now self .cells)) ⌝ }
         ensures { λ _. ⌜ held (now (self .exit) .cells) ≡ laid (held (now (self .entry) .cells)) 0 (block (held (now (self .entry) .cells)) from count) ⌝ }
     {
@@ -258,7 +258,7 @@ impl<'a> Words<'a> {
     }
 
     // The tables of a level that begins at `base`, lent.
-    pub fn tables(&self, base: usize, quads: usize, points: usize) -> Tables<'_>
+    pub(crate) fn tables(&self, base: usize, quads: usize, points: usize) -> Tables<'_>
         requires { ⌜ base + (8 * quads + points) ≤ length (held (now self .cells)) ⌝ }
         ensures { λ r. ⌜ mesh r ≡ level-at (held (now (self .entry) .cells)) base quads points ⌝ }
     {
@@ -274,7 +274,7 @@ impl<'a> Words<'a> {
     }
 
     // Writes four tables over the front.
-    pub fn lay_tables(&mut self, tables: &Tables<'_>, quads: usize)
+    pub(crate) fn lay_tables(&mut self, tables: &Tables<'_>, quads: usize)
         requires shape { ⌜ Counted (mesh (now tables)) ⌝ ∗ ⌜ quads ≡ mesh (now tables) .quads ⌝ }
         requires room { ⌜ 8 * quads + mesh (now tables) .points ≤ length (held (now self .cells)) ⌝ }
         ensures { λ _. ⌜ held (now (self .exit) .cells) ≡ four-laid (held (now (self .entry) .cells)) quads (held (now (tables .entry) .corners)) (held (now (tables .entry) .friends)) (held (now (tables .entry) .marks)) (held (now (tables .entry) .starts)) ⌝ }
@@ -286,7 +286,7 @@ impl<'a> Words<'a> {
     }
 
     // Writes 0 into `count` words from `at` on.
-    pub fn blank(&mut self, at: usize, count: usize)
+    pub(crate) fn blank(&mut self, at: usize, count: usize)
         requires { ⌜ at + count ≤ length (held (now self .cells)) ⌝ }
         ensures { λ _. ⌜ held (now (self .exit) .cells) ≡ laid (held (now (self .entry) .cells)) at (replicate count 0) ⌝ }
     {
@@ -294,7 +294,7 @@ impl<'a> Words<'a> {
     }
 
     // Writes xs over the words from `at` on.
-    pub fn copy_in(&mut self, at: usize, xs: &[u32])
+    pub(crate) fn copy_in(&mut self, at: usize, xs: &[u32])
         requires { ⌜ at + length (now xs) ≤ length (held (now self .cells)) ⌝ }
         ensures { λ _. ⌜ held (now (self .exit) .cells) ≡ laid (held (now (self .entry) .cells)) at (now (xs .entry)) ⌝ }
     {
