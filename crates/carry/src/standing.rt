@@ -27,8 +27,8 @@ pub fn values<'a, K: ValueKind>(
     ensures verdict { λ r. ⌜ told r ≡ values-asked (K·Rowed .verdict) (state (now (bench .entry)) .standing) (now (rows .entry)) (length (now (out .entry))) ⌝ }
     ensures written { λ r. ⌜ ByOk r (λ _. Of (state (now (bench .entry)) .standing) (λ m. now (out .exit) ≡ map (K·Rowed .row) (values-of blended m (made (K·Rowed .verdict) (now (rows .entry)))))) (λ _. now (out .exit) ≡ now (out .entry)) ⌝ }
 {
-    let tables = bench.tables(Level::Standing)?;
-    carry_values::<K>(&tables, rows, out)
+    let standing = bench.tables(Level::Standing)?;
+    carry_values::<K>(&standing, rows, out)
 }
 
 // Writes the corner values of the next level: from the rows of the 4F that stand, the rows of 16F. A refusal writes nothing.

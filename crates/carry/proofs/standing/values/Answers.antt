@@ -10,19 +10,19 @@ use Rattle.carry.specs.Rows.{made, refusal}
 use Rattle.carry.proofs.Asks.{asked-none, asked-some, of-some}
 use Rattle.carry.proofs.standing.values.Needs as need
 
-pub returns-in-Break-tables : need.returns-in-Break-tables
-returns-in-Break-tables g c =
+pub returns-in-Break-standing : need.returns-in-Break-standing
+returns-in-Break-standing g c =
     let p = err-from-errBy (c .from-residual .result) (c .from-residual .ensures .1) in
-    rw (p .1, p .2) (record { verdict = asked-none (state (c .args .bench .now) .standing) _ _ _ (c .in-Break-tables .ensures tt); written = refl })
+    rw (p .1, p .2) (record { verdict = asked-none (state (c .args .bench .now) .standing) _ _ _ (c .in-Break-standing .ensures tt); written = refl })
 
 pub carry-requires : need.carry-requires
-carry-requires g c κs = c .in-Continue-tables .ensures tt .lawful
+carry-requires g c κs = c .in-Continue-standing .ensures tt .lawful
 
 pub returns : need.returns
 returns g c =
     let v = g .K·Rowed .verdict in
     let rows = c .args .rows .now in
-    let is = c .in-Continue-tables .ensures tt .is in
+    let is = c .in-Continue-standing .ensures tt .is in
     let o = state (c .args .bench .now) .standing in
     record {
       verdict = c .carry .ensures .verdict ∙ asked-some o _ (λ m. refusal v (m .quads) (m .points) (m .points + 3 * m .quads) rows (length (c .args .out .now))) is;
