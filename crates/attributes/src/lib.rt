@@ -1,4 +1,6 @@
 // The kinds that are built: coordinates and influences on points, texture pairs and colours on corners.
+#![tactic(auto)]
+
 pub mod colour;
 pub mod coordinates;
 pub mod influence;

@@ -1,4 +1,5 @@
 // A bench on the pillow: the words that it needs, its refusals with their places, and tasks in any order; four levels; and large meshes.
+#![tactic(auto)]
 
 #[cfg(test)]
 mod large;

@@ -1,5 +1,7 @@
 // Values that are carried along refinement: what they are, and what stays true of them, for every kind.
 // Each function's contract is a law, proved in proofs/.
+#![tactic(auto)]
+
 ghost use Rattle.carried.specs.Laws.{CornersAre, PartsFit, SeamsAlikeByTest, SeamsStillMeet, ValuesAre, ValuesStayInRange};
 
 use kinds::corner::CornerKind;

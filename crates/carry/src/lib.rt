@@ -1,4 +1,6 @@
 // Values and corner values of the next level, computed from those of the standing level, for every kind.
+#![tactic(auto)]
+
 mod around;
 mod corners;
 pub mod lent;

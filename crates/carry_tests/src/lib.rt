@@ -1,5 +1,6 @@
 // Values and corner values of the next level, on examples.
 // The pillow is two quads back to back; the cube has six; the drum has ten, and two points of valence 5.
+#![tactic(auto)]
 
 #[cfg(test)]
 mod tests {

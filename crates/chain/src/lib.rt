@@ -1,4 +1,6 @@
 // Each function's contract is a promise, proved in proofs/.
+#![tactic(auto)]
+
 ghost use Rattle.chain.specs.Cases.{PillowChains, RefusedLoads, TextChains};
 ghost use Rattle.chain.specs.Causes.{CallsRefusedInOrder};
 ghost use Rattle.chain.specs.Clauses.{CallByCall, TextsLoadAsTables};

@@ -1,4 +1,6 @@
 // Calls for a program in Rust or C that compares the built code with an implementation of its own: reading a text, and judging tables.
+#![tactic(auto)]
+
 ghost use Rattle.std.specs.Prelude.{◌≡◌};
 ghost use Rattle.mesh.specs.Causes.{mesh_of, judge};
 ghost use Rattle.mesh.specs.Refusals.{told};

@@ -1,4 +1,6 @@
 // A bench made over lent words and asked by rows of numbers, one after the other.
+#![tactic(auto)]
+
 ghost use Rattle.std.specs.Prelude.{◌≡◌, ◌++◌, map, length, take, None as nothing};
 ghost use Rattle.bench.specs.Model.{state};
 ghost use Rattle.chain.specs.Calls.{made};

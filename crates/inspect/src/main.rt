@@ -1,4 +1,6 @@
 // Reads a mesh text from standard input and says in plain words what it holds, or why it is refused.
+#![tactic(auto)]
+
 use lines::{Counts, read, read_counts};
 use mesh::fault::Fault;
 use std::io::Read;

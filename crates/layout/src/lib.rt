@@ -1,4 +1,6 @@
 // The working words of a bench, cut into levels. Each contract is a law, proved in proofs/.
+#![tactic(auto)]
+
 ghost use Rattle.layout.specs.Laws.{BeginsWrite, FinishesWrite, LoadsWrite, TasksWrite};
 
 // A task changes its own words of the level in work, and no others.

@@ -1,4 +1,6 @@
 // The text format of meshes, and reading it into lent tables.
+#![tactic(auto)]
+
 mod digits;
 mod frame;
 pub mod reader;

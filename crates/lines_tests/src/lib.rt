@@ -1,4 +1,6 @@
 // Texts, right and damaged, with what reading them answers.
+#![tactic(auto)]
+
 #[cfg(test)]
 mod tests {
     use lines::{Counts, read, read_counts};

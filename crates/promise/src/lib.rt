@@ -1,4 +1,6 @@
 // The whole promise about chains of calls, for any value kind and any corner kind.
+#![tactic(auto)]
+
 ghost use Rattle.promise.specs.Whole.{EveryChainKeepsAll};
 
 use kinds::corner::CornerKind;

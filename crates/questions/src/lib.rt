@@ -1,5 +1,7 @@
 // Questions to the levels of a bench, for their counts and their words.
 // Whoever lends the tables of a level answers them all, so code above can know a bench by its questions alone.
+#![tactic(auto)]
+
 ghost use Rattle.std.specs.Prelude.{◌*◌};
 ghost use Rattle.chain.specs.Calls.{State};
 ghost use Rattle.bench.specs.Questions.{Lends, Tells, CountsAre, CornerIs, EdgeIs, OffEdgeIs, FriendIs, StartIs};

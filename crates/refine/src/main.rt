@@ -1,4 +1,6 @@
 // A mesh text from standard input, refined once, to standard output; a refusal is a frame, and the status is 0 then too.
+#![tactic(auto)]
+
 use std::io;
 use std::io::{Read, Write};
 use step::{LONGEST_INPUT, mesh_refine_step};

@@ -1,4 +1,6 @@
 // Each function's contract is a law, proved in proofs/.
+#![tactic(auto)]
+
 ghost use Rattle.refinement.specs.Laws.{AnyListOfTasks, AnyOrder, CausesTriedInOrder, CornersMetOnce, EdgesServeOnce, FriendsPair, HalvesAre, Judges, LevelsLawful, MarksFall, PillowCases, RefinedIs, RefinementKeepsLawful, RunAgain, SlotsOwnedOnce, StepKeeps, TablesHaveShape, TasksStand, TasksWait, ValencesKept, WorkBegins, WorkGoesOn};
 
 // A mesh is declined for its first cause at the first place of that cause, and for no other.

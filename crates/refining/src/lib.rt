@@ -1,2 +1,4 @@
 // A bench refined by one level.
+#![tactic(auto)]
+
 pub mod once;

@@ -1,3 +1,5 @@
 // Lists of requests to a bench.
+#![tactic(auto)]
+
 pub mod perform;
 pub mod request;

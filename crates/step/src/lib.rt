@@ -1,4 +1,6 @@
 // The step on bytes, for programs and for a caller in C: read, load, refine once, write.
+#![tactic(auto)]
+
 ghost use Rattle.mesh.specs.Refusals.{number_of, place_of};
 ghost use Rattle.text.specs.Writes.{frame_text};
 ghost use Rattle.step.specs.Step.{Answers, StepRefines, step_text};

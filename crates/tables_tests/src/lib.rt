@@ -1,4 +1,5 @@
 // Lent tables on examples: the pillow, and tables with one word or one length changed for each cause to decline them.
+#![tactic(auto)]
 
 #[cfg(test)]
 mod tests {

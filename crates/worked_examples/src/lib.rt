@@ -1,4 +1,6 @@
 // Worked examples of the results that are defined, in one list.
+#![tactic(auto)]
+
 ghost use Rattle.worked_examples.specs.Examples.{WorkedExamples};
 
 // What refinement, values and refusals give at numbers worked out by hand.
