@@ -25,7 +25,7 @@ pub trait Rowed: Copy {
 
 // The value that a row makes; a refusal names the component at fault.
 pub fn make_value<K: Rowed>(from: &K::Row) -> Result<K, Fault>
-    ensures { result ≡ with_fault (verdict from.now) }
+    ensures { result ≡ with_fault (K.verdict from.now) }
 {
     match K::make(from) {
         Ok(value) => Ok(value),

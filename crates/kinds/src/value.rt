@@ -43,8 +43,8 @@ pub trait ValueKind: Rowed {
 
 // Adds a part; one of weight 0 is not taken.
 pub fn add_part<K: ValueKind>(mix: &mut K::Mix, value: &K, weight: u32)
-    ensures adds { (ps : List (K × ℕ)) → holds mix.old ps → weighed mix.old + weight ≤ most_weight → holds mix.new (ps ++ taken ((value.now, weight) ∷ [])) }
-    ensures full { most_weight < weighed mix.old + weight → mix.new ≡ mix.old }
+    ensures adds { (ps : List (K × ℕ)) → K.holds mix.old ps → K.weighed mix.old + weight ≤ most_weight → K.holds mix.new (ps ++ taken ((value.now, weight) ∷ [])) }
+    ensures full { most_weight < K.weighed mix.old + weight → mix.new ≡ mix.old }
 {
     if weight != 0 {
         K::add(mix, value, weight);

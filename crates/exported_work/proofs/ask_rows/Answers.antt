@@ -23,7 +23,7 @@ loop-i-preserved c =
     let ys = c.loop-i.answers in
     let t : Session = record { bench = state c.loop-i.bench; held = held_mark c.loop-i.held } in
     let u : Session = record { bench = state c.ask-slip.new.bench; held = held_mark c.ask-slip.result.0 } in
-    let is : c.request-of.result ≡ request_of (get_or rs i []) = c.request-of.ensures in
+    let is : c.request_of.result ≡ request_of (get_or rs i []) = c.request_of.ensures in
     let e : u ≡ play store t (request_of (get_or rs i [])) = c.ask-slip.ensures.after ∙ ap (play store t) is in
     let n = ap length c.front-asked.ensures in
     let l = length-take (length c.args.answers.now) c.args.rows.now in

@@ -8,7 +8,7 @@ use Rattle.exported_work.proofs.work_rows.Goals as goal
 pub unreachable-requires : goal.unreachable-requires
 unreachable-requires c =
     let f = fits_held c.args.store.now (state c.args.bench.now) (requests_of (length c.args.answers.now) c.args.rows.now) _ _ c.in-Some.ensures.after in
-    never_refused _ _ _ c.in-Err.ensures.call.answers (settles (state c.ask-rows.new.bench) c.in-Some.slip.mark f)
+    never_refused _ _ _ c.in-Err.ensures.call.answers (settles (state c.ask_rows.new.bench) c.in-Some.slip.mark f)
 
 pub returns-in-None : goal.returns-in-None
 returns-in-None c =

@@ -9,4 +9,4 @@ returns-then-word-eq-INFINITE c = sym (cond-true _ _ _ (eq-eqb _ _ c.if-word-eq-
 
 pub returns-else-word-eq-INFINITE : goal.returns-else-word-eq-INFINITE
 unfolding fallen
-returns-else-word-eq-INFINITE c = c.saturating-sub.ensures ∙ sym (cond-false _ _ _ (ne_eqb _ _ c.if-word-eq-INFINITE.false))
+returns-else-word-eq-INFINITE c = c.saturating_sub.ensures ∙ sym (cond-false _ _ _ (ne_eqb _ _ c.if-word-eq-INFINITE.false))

@@ -10,7 +10,7 @@ pub bounds-tables-off : goal.bounds-tables-off
 unfolding mesh_of
 bounds-tables-off c =
     let l = off_edge_below c.args.corner.0 (mesh c.args.tables.now).quads c.requires.within in
-    let o = c.off-edge-off.ensures in
+    let o = c.off_edge-off.ensures in
     let n = c.requires.lawful.sound.counted.friend_count in
     omega arith
 
@@ -18,17 +18,17 @@ bounds-tables-off c =
 few : (m : Mesh) → Lawful m → (o c : ℕ) → o ≡ off_edge c → c < 4 * m.quads → friend m o < 2 * m.quads
 few m w o c e h = let l = off_edge_below c m.quads h in w.sound.friends_are_edges o (omega arith)
 
-pub overflow-mul-result : goal.overflow-mul-result
+pub overflow_mul-result : goal.overflow_mul-result
 unfolding mesh_of
-overflow-mul-result c =
-    let f = few (mesh c.args.tables.now) c.requires.lawful _ _ c.off-edge-off.ensures c.requires.within in
+overflow_mul-result c =
+    let f = few (mesh c.args.tables.now) c.requires.lawful _ _ c.off_edge-off.ensures c.requires.within in
     let q = c.requires.lawful.sound.quads_few in
     omega arith
 
-pub overflow-add-result : goal.overflow-add-result
+pub overflow_add-result : goal.overflow_add-result
 unfolding mesh_of
-overflow-add-result c =
-    let f = few (mesh c.args.tables.now) c.requires.lawful _ _ c.off-edge-off.ensures c.requires.within in
+overflow_add-result c =
+    let f = few (mesh c.args.tables.now) c.requires.lawful _ _ c.off_edge-off.ensures c.requires.within in
     let q = c.requires.lawful.sound.quads_few in
     omega arith
 
@@ -36,6 +36,6 @@ pub returns : goal.returns
 unfolding mesh_of
 returns c =
     let m = mesh c.args.tables.now in
-    let goes = step_by m c.args.corner.0 _ _ c.off-edge-off.ensures refl in
+    let goes = step_by m c.args.corner.0 _ _ c.off_edge-off.ensures refl in
     let l = step_below m c.requires.lawful.sound c.args.corner.0 c.requires.within in
     record { goes = goes; below = omega arith }

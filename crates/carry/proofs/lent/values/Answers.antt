@@ -7,18 +7,18 @@ use Rattle.carry.specs.Rows.{values_refusal}
 use Rattle.carry.proofs.Made.{first_fault, first_fine}
 use Rattle.carry.proofs.lent.values.Goals as goal
 
-pub returns-in-err-judge : goal.returns-in-err-judge
+pub returns-in_err-judge : goal.returns-in_err-judge
 unfolding values_refusal
-returns-in-err-judge g c =
+returns-in_err-judge g c =
     let p = err_from_is_err_and c.from-residual.result c.from-residual.ensures.1 in
-    rw (p.1, p.2) (record { verdict = first_fault (judge (mesh c.args.tables.now)) _ _ _ c.in-err-judge.ensures; written = refl })
+    rw (p.1, p.2) (record { verdict = first_fault (judge (mesh c.args.tables.now)) _ _ _ c.in_err-judge.ensures; written = refl })
 
 pub carry-requires : goal.carry-requires
-carry-requires g c = (judges (mesh c.args.tables.now)).only_lawful (sym c.in-ok-judge.ensures)
+carry-requires g c = (judges (mesh c.args.tables.now)).only_lawful (sym c.in_ok-judge.ensures)
 
 pub returns : goal.returns
 unfolding values_refusal
 returns g c = record {
-  verdict = c.carry.ensures.verdict ∙ first_fine (judge (mesh c.args.tables.now)) _ c.in-ok-judge.ensures;
+  verdict = c.carry.ensures.verdict ∙ first_fine (judge (mesh c.args.tables.now)) _ c.in_ok-judge.ensures;
   written = c.carry.ensures.written;
 }

@@ -5,5 +5,5 @@ use Rattle.carry.proofs.mix.add_at.Goals as goal
 pub returns : goal.returns
 returns g c =
     let k = g.K.ValueKind in
-    mixed_more k.blended k.holds k.weighed g.met.K.ValueKind.weighs (made g.K.Rowed.verdict c.args.rows.now) c.args.mix.now c.add-part.new.mix _ c.args.at.0 c.args.weight
-    (c.value-at-value.ensures (k.blended _)) c.add-part.ensures.adds
+    mixed_more k.blended k.holds k.weighed g.met.K.ValueKind.weighs (made g.K.Rowed.verdict c.args.rows.now) c.args.mix.now c.add_part.new.mix _ c.args.at.0 c.args.weight
+    (c.value_at-value.ensures (k.blended _)) c.add_part.ensures.adds

@@ -14,7 +14,7 @@ use Rattle.carry.specs.Walks.{marked_met}
 use Rattle.carry.proofs.Rounds.{crease_more, crease_parts, crease_room, crease_total, marked_fewer}
 use Rattle.carry.proofs.Walks.{marked_all, met_marked, met_smooth, on_walk, other_on_walk}
 use Rattle.carry.proofs.moved.add_marked.Goals as goal
-use Rattle.carry.proofs.moved.add_marked.Goals.{then-is-marked, else-is-marked}
+use Rattle.carry.proofs.moved.add_marked.Goals.{then-is_marked, else-is_marked}
 
 pub bounds-tables-point : goal.bounds-tables-point
 unfolding mesh_of
@@ -30,12 +30,12 @@ step-mark-requires g c =
     let i = (c.loop-met.invariant c.args.point.0 c.requires.within refl).0 in
     record { lawful = c.requires.ready.lawful; within = on_walk (mesh c.args.tables.now) c.requires.ready.lawful.sound c.args.point.0 _ _ c.requires.within i }
 
-pub point-at-requires : goal.point-at-requires
+pub point_at-requires : goal.point_at-requires
 unfolding mesh_of other_end
-point-at-requires g c =
+point_at-requires g c =
     let i = (c.loop-met.invariant c.args.point.0 c.requires.within refl).0 in
     let l = other_on_walk (mesh c.args.tables.now) c.requires.ready.lawful.sound c.args.point.0 _ _ c.requires.within i in
-    record { lawful = c.requires.ready.lawful; within = rw c.other-end.ensures l }
+    record { lawful = c.requires.ready.lawful; within = rw c.other_end.ensures l }
 
 pub loop-met-preserved : goal.loop-met-preserved
 unfolding other_end
@@ -49,9 +49,9 @@ loop-met-preserved g c =
     let inv = c.loop-met.invariant v l e in
     let cs = marked_met m v i in (
       walk_more m v i _ _ inv.0 c.step-mark.ensures.goes,
-      λ ps h few. elim c.if-is-marked.branch [
-        | then-is-marked w ↦
-            let grow = met_marked m v i at inv.0 (w.if-is-marked.ensures ∙ ap (ltb 0) c.step-mark.ensures.marks) in
+      λ ps h few. elim c.if-is_marked.branch [
+        | then-is_marked w ↦
+            let grow = met_marked m v i at inv.0 (w.if-is_marked.ensures ∙ ap (ltb 0) c.step-mark.ensures.marks) in
             let test = c.loop-met-test.true in
             let fewer = marked_fewer m v (i + 1) c.args.valence (omega arith) in
             let one = ap length grow in
@@ -59,13 +59,13 @@ loop-met-preserved g c =
             let room = crease_room m v i c.args.valence k (omega arith) in
             let before = ps ++ crease_parts m k cs in
             let weight : total before ≡ total ps + length cs * k = total_append ps _ ∙ ap (λ x. total ps + x) (crease_total m k cs) in
-            let h1 = w.add-at.ensures before (inv.1 ps h few) (omega arith) in
-            let p : w.point-at.result.0 ≡ point m (other_end at) = w.point-at.ensures.is ∙ ap (point m) w.other-end.ensures in
+            let h1 = w.add_at.ensures before (inv.1 ps h few) (omega arith) in
+            let p : w.point_at.result.0 ≡ point m (other_end at) = w.point_at.ensures.is ∙ ap (point m) w.other_end.ensures in
             subst (λ x. Mixed g.K.ValueKind.blended g.K.ValueKind.holds xs x (ps ++ crease_parts m k (marked_met m v (i + 1)))) (sym w.mix-is)
-            (subst (Mixed g.K.ValueKind.blended g.K.ValueKind.holds xs w.add-at.new.mix)
+            (subst (Mixed g.K.ValueKind.blended g.K.ValueKind.holds xs w.add_at.new.mix)
             ((λ j. before ++ (p j, k) ∷ []) ∙ crease_more m k ps cs at ∙ ap (λ cs. ps ++ crease_parts m k cs) grow) h1)
-        | else-is-marked w ↦
-            let same = met_smooth m v i at inv.0 (w.if-is-marked.ensures ∙ ap (ltb 0) c.step-mark.ensures.marks) in
+        | else-is_marked w ↦
+            let same = met_smooth m v i at inv.0 (w.if-is_marked.ensures ∙ ap (ltb 0) c.step-mark.ensures.marks) in
             subst (λ x. Mixed g.K.ValueKind.blended g.K.ValueKind.holds xs x (ps ++ crease_parts m k (marked_met m v (i + 1)))) (sym w.mix-is)
             (subst (Mixed g.K.ValueKind.blended g.K.ValueKind.holds xs c.loop-met.mix)
             (ap (λ cs. ps ++ crease_parts m k cs) same) (inv.1 ps h few))

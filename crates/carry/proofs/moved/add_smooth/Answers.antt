@@ -23,22 +23,22 @@ pub loop-met-init : goal.loop-met-init
 loop-met-init g c = λ v l e.
     (walk_first (mesh c.args.tables.now) v _ e, λ ps h few. subst (Mixed g.K.ValueKind.blended g.K.ValueKind.holds (made g.K.Rowed.verdict c.args.rows.now) _) (sym (append-nil ps)) h)
 
-pub next-corner-corner-requires : goal.next-corner-corner-requires
+pub next_corner-corner-requires : goal.next_corner-corner-requires
 unfolding mesh_of
-next-corner-corner-requires g c =
+next_corner-corner-requires g c =
     let i = (c.loop-met.invariant c.args.point.0 c.requires.within refl).0 in
     record { lawful = c.requires.ready.lawful; within = on_walk (mesh c.args.tables.now) c.requires.ready.lawful.sound c.args.point.0 _ _ c.requires.within i }
 
-pub point-at-requires : goal.point-at-requires
+pub point_at-requires : goal.point_at-requires
 unfolding mesh_of other_end
-point-at-requires g c =
+point_at-requires g c =
     let i = (c.loop-met.invariant c.args.point.0 c.requires.within refl).0 in
     let l = other_on_walk (mesh c.args.tables.now) c.requires.ready.lawful.sound c.args.point.0 _ _ c.requires.within i in
-    record { lawful = c.requires.ready.lawful; within = rw c.other-end.ensures l }
+    record { lawful = c.requires.ready.lawful; within = rw c.other_end.ensures l }
 
-pub point-at-requires-in-loop-met : goal.point-at-requires-in-loop-met
+pub point_at-requires-in-loop-met : goal.point_at-requires-in-loop-met
 unfolding mesh_of diagonal
-point-at-requires-in-loop-met g c =
+point_at-requires-in-loop-met g c =
     let i = (c.loop-met.invariant c.args.point.0 c.requires.within refl).0 in
     let l = opposite_on_walk (mesh c.args.tables.now) c.requires.ready.lawful.sound c.args.point.0 _ _ c.requires.within i in
     record { lawful = c.requires.ready.lawful; within = rw c.diagonal.ensures l }
@@ -50,18 +50,18 @@ loop-met-preserved g c = λ v l e.
     let k = c.args.times in
     let i = c.loop-met.-met in
     let inv = c.loop-met.invariant v l e in (
-      walk_more m v i _ _ inv.0 c.next-corner-corner.ensures.goes,
+      walk_more m v i _ _ inv.0 c.next_corner-corner.ensures.goes,
       λ ps h few.
           let before = ps ++ times k (round m (met m v i)) in
-          let p = c.point-at.result.0 in
+          let p = c.point_at.result.0 in
           let weight : total before ≡ total ps + 7 * (k * i) = total_append ps _ ∙ ap (λ x. total ps + x) (round_total m v i k) in
           let room = round_room m k i c.args.valence c.loop-met-test.true in
-          let h1 = c.add-at-in-loop-met.ensures before (inv.1 ps h few) (omega arith) in
+          let h1 = c.add_at-in-loop-met.ensures before (inv.1 ps h few) (omega arith) in
           let more : total (before ++ (p, k * 6) ∷ []) ≡ total before + (k * 6 + 0) = total_append before ((p, k * 6) ∷ []) in
-          let h2 = c.add-at-in-loop-met-2.ensures (before ++ (p, k * 6) ∷ []) h1 (omega arith) in
-          let a : p ≡ point m (other_end c.loop-met.corner.0) = c.point-at.ensures.is ∙ ap (point m) c.other-end.ensures in
-          let b : c.point-at-in-loop-met.result.0 ≡ point m (diagonal c.loop-met.corner.0) = c.point-at-in-loop-met.ensures.is ∙ ap (point m) c.diagonal.ensures in
-          subst (Mixed g.K.ValueKind.blended g.K.ValueKind.holds (made g.K.Rowed.verdict c.args.rows.now) c.add-at-in-loop-met-2.new.mix)
+          let h2 = c.add_at-in-loop-met-2.ensures (before ++ (p, k * 6) ∷ []) h1 (omega arith) in
+          let a : p ≡ point m (other_end c.loop-met.corner.0) = c.point_at.ensures.is ∙ ap (point m) c.other_end.ensures in
+          let b : c.point_at-in-loop-met.result.0 ≡ point m (diagonal c.loop-met.corner.0) = c.point_at-in-loop-met.ensures.is ∙ ap (point m) c.diagonal.ensures in
+          subst (Mixed g.K.ValueKind.blended g.K.ValueKind.holds (made g.K.Rowed.verdict c.args.rows.now) c.add_at-in-loop-met-2.new.mix)
           ((λ j. (before ++ (a j, k * 6) ∷ []) ++ (b j, k) ∷ []) ∙ round_more m v i k ps _ inv.0) h2,
     )
 
@@ -76,7 +76,7 @@ returns g c = λ ps h few.
     let two = c.requires.ready.lawful.sound.walks_not_short v c.requires.within in
     let steps = c.requires.steps in
     let room = smooth_room m k n (omega arith) in
-    let h1 = c.add-at.ensures ps h (omega arith) in
+    let h1 = c.add_at.ensures ps h (omega arith) in
     let more : total (ps ++ (v, own) ∷ []) ≡ total ps + (own + 0) = total_append ps ((v, own) ∷ []) in
     let h2 = (c.loop-met.invariant v c.requires.within refl).1 (ps ++ (v, own) ∷ []) h1 (omega arith) in
     let all : c.loop-met.-met ≡ n = omega arith in

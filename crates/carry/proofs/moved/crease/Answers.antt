@@ -8,24 +8,24 @@ use Rattle.carry.specs.Rows.{made}
 use Rattle.carry.proofs.Creases.{crease_small, crease_sums, creased_is, limits, smooth_weight_is}
 use Rattle.carry.proofs.moved.crease.Goals as goal
 
-pub overflow-mul-weight-3 : goal.overflow-mul-weight-3
-overflow-mul-weight-3 g c =
+pub overflow_mul-weight-3 : goal.overflow_mul-weight-3
+overflow_mul-weight-3 g c =
     let l = limits (mesh c.args.tables.now) c.requires.ready.lawful c.args.point.0 _ _ c.requires.within c.requires.steps c.requires.sees (c.sharpness-s.ensures _ _ c.requires.sees) in
     let j = c.requires.two in
     let sharp = l.sharp in
     let p = crease_small _ c.sharpness-s.result l.square (omega arith) in
     omega arith
 
-pub overflow-mul-weight-4 : goal.overflow-mul-weight-4
-overflow-mul-weight-4 g c =
+pub overflow_mul-weight-4 : goal.overflow_mul-weight-4
+overflow_mul-weight-4 g c =
     let l = limits (mesh c.args.tables.now) c.requires.ready.lawful c.args.point.0 _ _ c.requires.within c.requires.steps c.requires.sees (c.sharpness-s.ensures _ _ c.requires.sees) in
     let j = c.requires.two in
     let sharp = l.sharp in
     let p = crease_small _ c.sharpness-s.result l.square (omega arith) in
     omega arith
 
-pub overflow-sub-s : goal.overflow-sub-s
-overflow-sub-s g c =
+pub overflow_sub-s : goal.overflow_sub-s
+overflow_sub-s g c =
     let l = limits (mesh c.args.tables.now) c.requires.ready.lawful c.args.point.0 _ _ c.requires.within c.requires.steps c.requires.sees (c.sharpness-s.ensures _ _ c.requires.sees) in
     let j = c.requires.two in
     let sharp = l.sharp in
@@ -50,7 +50,7 @@ returns g c =
     let next : total (first ++ (v, 6 * (x * s)) ∷ []) ≡ total first + (6 * (x * s) + 0) = total_append first ((v, 6 * (x * s)) ∷ []) in
     let count : length (marked m v) ≡ 2 = sym c.requires.sees.marked_is ∙ j in
     let two : length (marked m v) * (x * s) ≡ 2 * (x * s) = ap (λ n. n * (x * s)) count in
-    let h1 = c.add-smooth.ensures [] c.start-mix.ensures.none (omega arith) in
-    let h2 = c.add-at.ensures first h1 (omega arith) in
-    let h3 = c.add-marked.ensures (first ++ (v, 6 * (x * s)) ∷ []) h2 (omega arith) in
+    let h1 = c.add_smooth.ensures [] c.start-mix.ensures.none (omega arith) in
+    let h2 = c.add_at.ensures first h1 (omega arith) in
+    let h3 = c.add_marked.ensures (first ++ (v, 6 * (x * s)) ∷ []) h2 (omega arith) in
     c.finish.ensures.blends _ h3 ∙ ap (blend g.K.ValueKind.blended (made g.K.Rowed.verdict c.args.rows.now)) (creased_is m v n s c.requires.steps is)

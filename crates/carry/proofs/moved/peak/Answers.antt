@@ -13,25 +13,25 @@ sharpness-s-requires g c =
     let l = limits m c.requires.ready.lawful c.args.point.0 (sharpness m c.args.point.0) _ c.requires.within c.requires.steps c.requires.sees refl in
     l.few
 
-pub overflow-mul-seen : goal.overflow-mul-seen
-overflow-mul-seen g c =
+pub overflow_mul-seen : goal.overflow_mul-seen
+overflow_mul-seen g c =
     let l = limits (mesh c.args.tables.now) c.requires.ready.lawful c.args.point.0 _ _ c.requires.within c.requires.steps c.requires.sees (c.sharpness-s.ensures _ _ c.requires.sees) in
     let few = l.few in
     omega arith
 
-pub overflow-sub-seen : goal.overflow-sub-seen
-overflow-sub-seen g c =
+pub overflow_sub-seen : goal.overflow_sub-seen
+overflow_sub-seen g c =
     let l = limits (mesh c.args.tables.now) c.requires.ready.lawful c.args.point.0 _ _ c.requires.within c.requires.steps c.requires.sees (c.sharpness-s.ensures _ _ c.requires.sees) in
     l.sharp
 
-pub add-smooth-requires : goal.add-smooth-requires
-add-smooth-requires g c =
+pub add_smooth-requires : goal.add_smooth-requires
+add_smooth-requires g c =
     let l = limits (mesh c.args.tables.now) c.requires.ready.lawful c.args.point.0 _ _ c.requires.within c.requires.steps c.requires.sees (c.sharpness-s.ensures _ _ c.requires.sees) in
     let few = l.few in
     record { ready = c.requires.ready; within = c.requires.within; steps = c.requires.steps; few = omega arith }
 
-pub overflow-mul-n-3 : goal.overflow-mul-n-3
-overflow-mul-n-3 g c =
+pub overflow_mul-n-3 : goal.overflow_mul-n-3
+overflow_mul-n-3 g c =
     let l = limits (mesh c.args.tables.now) c.requires.ready.lawful c.args.point.0 _ _ c.requires.within c.requires.steps c.requires.sees (c.sharpness-s.ensures _ _ c.requires.sees) in
     let p = corner_small _ c.sharpness-s.result c.args.seen.now.marked l.square l.few l.sharp in
     omega arith
@@ -50,7 +50,7 @@ returns g c =
     let sums = corner_sums x s j l.square l.few l.sharp in
     let first = times k (smooth m v) in
     let weight : total first ≡ k * x = smooth_weight_is m c.requires.ready.lawful v n k c.requires.within c.requires.steps in
-    let h1 = c.add-smooth.ensures [] c.start-mix.ensures.none (omega arith) in
-    let h2 = c.add-at.ensures first h1 (omega arith) in
+    let h1 = c.add_smooth.ensures [] c.start-mix.ensures.none (omega arith) in
+    let h2 = c.add_at.ensures first h1 (omega arith) in
     c.finish.ensures.blends _ h2
     ∙ ap (blend g.K.ValueKind.blended (made g.K.Rowed.verdict c.args.rows.now)) (cornered_is m v n s c.requires.steps is j c.requires.sees.marked_is)

@@ -15,5 +15,5 @@ returns g c =
     let most = c.requires.ready.lawful.sound.walks_return v c.requires.within in
     let steps = c.requires.steps in
     let q = product_le n n 64 64 (omega arith) (omega arith) in
-    let h = c.add-smooth.ensures [] c.start-mix.ensures.none (omega arith) in
+    let h = c.add_smooth.ensures [] c.start-mix.ensures.none (omega arith) in
     c.finish.ensures.blends _ h ∙ ap (blend g.K.ValueKind.blended (made g.K.Rowed.verdict c.args.rows.now)) (times_one (smooth m v))

@@ -5,9 +5,9 @@ use Rattle.refinement.proofs.Causes.{once_on, once_fault}
 use Rattle.carry.specs.Rows.{refusal}
 use Rattle.carry.proofs.rows.judge.Goals as goal
 
-pub returns-then-quads-gt-MOST-QUADS : goal.returns-then-quads-gt-MOST-QUADS
+pub returns-then-quads-gt-MOST_QUADS : goal.returns-then-quads-gt-MOST_QUADS
 unfolding refusal
-returns-then-quads-gt-MOST-QUADS g c = sym (once_fault 13 _ _ (lt-leb _ _ (omega arith)))
+returns-then-quads-gt-MOST_QUADS g c = sym (once_fault 13 _ _ (lt-leb _ _ (omega arith)))
 
 pub returns-then-rows-standing : goal.returns-then-rows-standing
 unfolding refusal
@@ -24,4 +24,4 @@ returns g c =
     let few : 4 * c.args.quads ≤ most_quads = omega arith in
     let old : length c.args.rows.now ≡ c.args.standing = omega arith in
     let new : c.args.room ≡ c.args.new = omega arith in
-    c.judge-rows.ensures ∙ sym (once_on 13 _ _ (le-leb _ _ few) ∙ once_on 19 _ _ (and_from _ _ (eq-eqb _ _ old) (eq-eqb _ _ new)))
+    c.judge_rows.ensures ∙ sym (once_on 13 _ _ (le-leb _ _ few) ∙ once_on 19 _ _ (and_from _ _ (eq-eqb _ _ old) (eq-eqb _ _ new)))

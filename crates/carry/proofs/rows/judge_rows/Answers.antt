@@ -18,7 +18,7 @@ loop-i-preserved g c =
     let f : g.row.K-Row.Denot → Bool = λ r. is_ok (g.K.Rowed.verdict r) in
     let r = c.index-rows-i.result in
     below_more _ _ c.loop-i.invariant
-    (get_or-map f c.args.rows.now c.loop-i.i r _ c.loop-i-test.true ∙ ap f (sym c.index-rows-i.is) ∙ ap is_ok (sym c.make.ensures ∙ c.in-default.is))
+    (get_or-map f c.args.rows.now c.loop-i.i r _ c.loop-i-test.true ∙ ap f (sym c.index-rows-i.is) ∙ ap is_ok (sym c.make.ensures ∙ c.in_default.is))
 
 pub returns : goal.returns
 unfolding rows_refusal

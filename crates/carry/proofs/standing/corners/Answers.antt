@@ -9,14 +9,14 @@ use Rattle.carry.specs.OneLevel.{SeamsMet}
 use Rattle.carry.proofs.OneLevel.{seams_kept}
 use Rattle.carry.proofs.standing.corners.Goals as goal
 
-pub returns-in-err-tables : goal.returns-in-err-tables
-returns-in-err-tables g c =
+pub returns-in_err-tables : goal.returns-in_err-tables
+returns-in_err-tables g c =
     let p = err_from_is_err_and c.from-residual.result c.from-residual.ensures.1 in
-    rw (p.1, p.2) (record { verdict = asked_none (state c.args.bench.now).standing _ _ _ c.in-err-tables.ensures; written = refl; seams = tt })
+    rw (p.1, p.2) (record { verdict = asked_none (state c.args.bench.now).standing _ _ _ c.in_err-tables.ensures; written = refl; seams = tt })
 
 pub carry-requires : goal.carry-requires
 carry-requires g c =
-    let few = c.in-ok-tables.ensures.quads_few in
+    let few = c.in_ok-tables.ensures.quads_few in
     let q = c.quads.ensures in
     omega arith
 
@@ -25,8 +25,8 @@ returns g c =
     let v = g.C.Rowed.verdict in
     let rows = c.args.rows.now in
     let n = length c.args.out.now in
-    let is = c.in-ok-tables.ensures.is in
-    let t = c.in-ok-tables.tables in
+    let is = c.in_ok-tables.ensures.is in
+    let t = c.in_ok-tables.tables in
     let o = (state c.args.bench.now).standing in
     record {
       verdict =
@@ -34,7 +34,7 @@ returns g c =
           ∙ asked_some o _ (λ m. refusal v m.quads (4 * m.quads) (16 * m.quads) rows n) is;
       written = MatchResult-weaker c.carry.result c.carry.ensures.written (λ _ h. of_some o _ (λ m. c.carry.new.out ≡ map g.C.Rowed.row (corners g.C.CornerKind.middle (made v rows))) is h) (λ _ h. h);
       seams = MatchResult-weaker c.carry.result
-          (seams_kept v g.C.Rowed.row g.met.C.Rowed.again (mesh t) c.in-ok-tables.ensures.lawful rows c.carry.new.out c.args.out.now n g.C.CornerKind.middle g.met.C.CornerKind.even
+          (seams_kept v g.C.Rowed.row g.met.C.Rowed.again (mesh t) c.in_ok-tables.ensures.lawful rows c.carry.new.out c.args.out.now n g.C.CornerKind.middle g.met.C.CornerKind.even
           c.carry.result (c.carry.ensures.verdict ∙ ap (λ q. refusal v q (4 * q) (16 * q) rows n) c.quads.ensures) c.carry.ensures.written)
           (λ _ h. of_some o (mesh t) (λ m. SeamsMet v m rows c.carry.new.out) is h) (λ _ h. h);
     }

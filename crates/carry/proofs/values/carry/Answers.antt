@@ -15,28 +15,28 @@ judge-requires g c =
     let e = c.quads-quads.ensures in
     (omega arith, omega arith)
 
-pub returns-in-err-judge : goal.returns-in-err-judge
+pub returns-in_err-judge : goal.returns-in_err-judge
 unfolding mesh_of
-returns-in-err-judge g c =
+returns-in_err-judge g c =
     let p = err_from_is_err_and c.from-residual.result c.from-residual.ensures.1 in
     let n = length c.args.tables.now.starts.now in
     rw (p.1, p.2) (record {
-      verdict = c.in-err-judge.ensures ∙ ap (λ q. refusal g.K.Rowed.verdict q n (n + 3 * q) c.args.rows.now (length c.args.out.now)) c.quads-quads.ensures;
+      verdict = c.in_err-judge.ensures ∙ ap (λ q. refusal g.K.Rowed.verdict q n (n + 3 * q) c.args.rows.now (length c.args.out.now)) c.quads-quads.ensures;
       written = refl;
     })
 
-pub put-moved-requires : goal.put-moved-requires
+pub put_moved-requires : goal.put_moved-requires
 unfolding mesh_of
-put-moved-requires g c =
-    let a = accepted _ _ _ _ _ _ c.in-ok-judge.ensures in
+put_moved-requires g c =
+    let a = accepted _ _ _ _ _ _ c.in_ok-judge.ensures in
     let e = c.quads-quads.ensures in
     let n = a.enough in
     record { ready = record { lawful = c.requires; count = a.count; all = a.all }; room = omega arith }
 
-pub put-quads-requires : goal.put-quads-requires
+pub put_quads-requires : goal.put_quads-requires
 unfolding mesh_of
-put-quads-requires g c =
-    let a = accepted _ _ _ _ _ _ c.in-ok-judge.ensures in
+put_quads-requires g c =
+    let a = accepted _ _ _ _ _ _ c.in_ok-judge.ensures in
     let e = c.quads-quads.ensures in
     let n = a.enough in
     record { ready = record { lawful = c.requires; count = a.count; all = a.all }; room = omega arith }
@@ -46,13 +46,13 @@ unfolding mesh_of
 returns g c =
     let m = mesh c.args.tables.now in
     let n = length c.args.tables.now.starts.now in
-    let a = accepted _ _ _ _ _ _ c.in-ok-judge.ensures in
+    let a = accepted _ _ _ _ _ _ c.in_ok-judge.ensures in
     let e = c.quads-quads.ensures in
     let enough = a.enough in
     record {
-      verdict = c.in-ok-judge.ensures ∙ ap (λ q. refusal g.K.Rowed.verdict q n (n + 3 * q) c.args.rows.now (length c.args.out.now)) c.quads-quads.ensures;
-      written = all_right g.K.Rowed.row g.K.ValueKind.blended m (made g.K.Rowed.verdict c.args.rows.now) c.requires c.put-quads.new.out (omega arith)
-          (λ v l. c.put-quads.ensures.kept _ (c.put-moved.ensures v l))
-          c.put-quads.ensures.faces
-          c.put-quads.ensures.edges;
+      verdict = c.in_ok-judge.ensures ∙ ap (λ q. refusal g.K.Rowed.verdict q n (n + 3 * q) c.args.rows.now (length c.args.out.now)) c.quads-quads.ensures;
+      written = all_right g.K.Rowed.row g.K.ValueKind.blended m (made g.K.Rowed.verdict c.args.rows.now) c.requires c.put_quads.new.out (omega arith)
+          (λ v l. c.put_quads.ensures.kept _ (c.put_moved.ensures v l))
+          c.put_quads.ensures.faces
+          c.put_quads.ensures.edges;
     }

@@ -12,7 +12,7 @@ use Rattle.carry.proofs.values.put_edge.Goals as goal
 pub put-requires : goal.put-requires
 put-requires g c =
     let m = mesh c.args.tables.now in
-    let s = c.edge-slot.ensures ∙ ap edge_slot c.record-of-record.ensures.friend_is in
+    let s = c.edge_slot.ensures ∙ ap edge_slot c.record_of-record.ensures.friend_is in
     let w = c.requires.ready.lawful.sound in
     let l = edge_slot_below m w.points-enough (friend m c.args.off.0) (w.friends-are-edges c.args.off.0 c.requires.within) in
     let r = c.requires.room in
@@ -23,12 +23,12 @@ returns g c =
     let m = mesh c.args.tables.now in
     let w = c.requires.ready.lawful in
     let o = c.args.off.0 in
-    let s : c.edge-slot.result ≡ edge_slot (friend m o) = c.edge-slot.ensures ∙ ap edge_slot c.record-of-record.ensures.friend_is in
+    let s : c.edge_slot.result ≡ edge_slot (friend m o) = c.edge_slot.ensures ∙ ap edge_slot c.record_of-record.ensures.friend_is in
     let l = edge_slot_below m w.sound.points_enough (friend m o) (w.sound.friends_are_edges o c.requires.within) in
     let r = c.requires.room in
     let due = ap (parts m) s ∙ edge_parts m w o c.requires.within in
     let xs = made g.K.Rowed.verdict c.args.rows.now in
     record {
-      kept = put_keeps g.K.Rowed.row g.K.ValueKind.blended m xs c.args.out.now c.put.new.out c.edge-slot.result _ _ (omega arith) c.put.ensures c.edge-value.ensures due;
-      right = put_right_at g.K.Rowed.row g.K.ValueKind.blended m xs c.args.out.now c.put.new.out c.edge-slot.result _ _ (omega arith) c.put.ensures c.edge-value.ensures due _ s;
+      kept = put_keeps g.K.Rowed.row g.K.ValueKind.blended m xs c.args.out.now c.put.new.out c.edge_slot.result _ _ (omega arith) c.put.ensures c.edge-value.ensures due;
+      right = put_right_at g.K.Rowed.row g.K.ValueKind.blended m xs c.args.out.now c.put.new.out c.edge_slot.result _ _ (omega arith) c.put.ensures c.edge-value.ensures due _ s;
     }

@@ -9,9 +9,9 @@ use Rattle.carry.specs.Rows.{made}
 use Rattle.carry.proofs.Slots.{put_more}
 use Rattle.carry.proofs.values.put_moved.Goals as goal
 
-pub overflow-cast-point : goal.overflow-cast-point
+pub overflow_cast-point : goal.overflow_cast-point
 unfolding mesh_of
-overflow-cast-point g c =
+overflow_cast-point g c =
     let p = c.requires.ready.lawful.sound.points_few in
     let q = c.requires.ready.lawful.sound.quads_few in
     omega arith
@@ -24,7 +24,7 @@ pub put-requires : goal.put-requires
 unfolding mesh_of
 put-requires g c =
     let m = mesh c.args.tables.now in
-    let s = c.old-slot.ensures m (sym c.quads-quads.ensures) in
+    let s = c.old_slot.ensures m (sym c.quads-quads.ensures) in
     let l = old_slot_below m c.loop-v.v (omega arith) in
     let r = c.requires.room in
     omega arith
@@ -33,10 +33,10 @@ pub loop-v-preserved : goal.loop-v-preserved
 unfolding mesh_of
 loop-v-preserved g c =
     let m = mesh c.args.tables.now in
-    let s = c.old-slot.ensures m (sym c.quads-quads.ensures) in
+    let s = c.old_slot.ensures m (sym c.quads-quads.ensures) in
     let l = old_slot_below m c.loop-v.v (omega arith) in
     let r = c.requires.room in
-    put_more g.K.Rowed.row g.K.ValueKind.blended m (made g.K.Rowed.verdict c.args.rows.now) c.loop-v.out c.put.new.out c.old-slot.result _ _
+    put_more g.K.Rowed.row g.K.ValueKind.blended m (made g.K.Rowed.verdict c.args.rows.now) c.loop-v.out c.put.new.out c.old_slot.result _ _
     (omega arith) c.put.ensures c.moved-value.ensures (ap (parts m) s ∙ old_parts m c.requires.ready.lawful c.loop-v.v) (old_slot m) c.loop-v.v (sym s) c.loop-v.invariant
 
 pub returns : goal.returns

@@ -9,5 +9,5 @@ returns c =
     let ws = c.args.words.now in
     let n = length ws in
     let k : a + (a + n - a) ≡ a + n = omega arith in
-    ap (λ (y : List ℕ). take a t ++ (y ++ drop (a + n - a) (drop a t))) c.copy-from-slice.ensures.after
+    ap (λ (y : List ℕ). take a t ++ (y ++ drop (a + n - a) (drop a t))) c.copy_from_slice.ensures.after
     ∙ ap (λ (d : List ℕ). take a t ++ (ws ++ d)) (drop-drop (a + n - a) a t ∙ ap (λ (i : ℕ). drop i t) k)

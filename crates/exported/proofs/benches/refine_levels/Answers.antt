@@ -12,7 +12,7 @@ returns-in-Err c =
 
 pub loop-done-preserved : goal.loop-done-preserved
 loop-done-preserved c =
-    λ words mark m e. at_next words mark m (state c.loop-done.bench) _ c.loop-done.-done (c.loop-done.invariant words mark m e) c.in-default.ensures
+    λ words mark m e. at_next words mark m (state c.loop-done.bench) _ c.loop-done.-done (c.loop-done.invariant words mark m e) c.in_default.ensures
 
 pub returns : goal.returns
 returns c =

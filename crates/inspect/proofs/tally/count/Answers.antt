@@ -21,7 +21,7 @@ add-tally-requires c =
     let h = few is_semi_sharp ws i c.loop-word.tally.semi_sharp (omega arith) t.semi_sharp_are in
     let f = few is_infinite ws i c.loop-word.tally.infinite (omega arith) t.infinite_are in
     let n = few is_no_mark ws i c.loop-word.tally.no_mark (omega arith) t.no_marks_are in
-    record { smooth = omega arith; semi-sharp = omega arith; infinite = omega arith; no_mark = omega arith }
+    record { smooth = omega arith; semi_sharp = omega arith; infinite = omega arith; no_mark = omega arith }
 
 more : (test : ℕ → Bool) (ws : List ℕ) (i n m : ℕ) → i < length ws → n ≡ how_many test (take i ws) → m ≡ one_if (test (get_or ws i 0)) n → m ≡ how_many test (take (i + 1) ws)
 more test ws i n m h e f = f ∙ ap (one_if (test (get_or ws i 0))) e ∙ sym (how_many_more test ws i h)

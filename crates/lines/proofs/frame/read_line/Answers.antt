@@ -6,7 +6,7 @@ use Rattle.lines.specs.Reading.{line}
 use Rattle.lines.proofs.Finds.{line_none, line_finds}
 use Rattle.lines.proofs.LineWords.{line_words, words_line, words_end}
 use Rattle.lines.proofs.frame.read_line.Goals as goal
-use Rattle.lines.proofs.frame.read_line.Goals.{then-first-a-via-then-first-a, then-first-a-via-else-first-a+then-second-b, in-default-end-via-then-end-lt1, in-default-end-via-else-end-lt1+in-default·}
+use Rattle.lines.proofs.frame.read_line.Goals.{then-first-a-via-then-first-a, then-first-a-via-else-first-a+then-second-b, in_default-end-via-then-end-lt1, in_default-end-via-else-end-lt1+in_default·}
 
 -- the code's `words` is `&s[2..]`
 there : (s ns t : List ℕ) → Words (drop 2 s) ns t → Words (take (length s - 2) (drop 2 s)) ns t
@@ -16,8 +16,8 @@ back : (s ns t : List ℕ) → Words (take (length s - 2) (drop 2 s)) ns t → W
 back s ns t w = let P : List ℕ → Type 0 = λ x. Words x ns t in subst P (take_rest s 2) w
 
 -- the length that a slice pattern asked is a test, which `ltb-true` and `ltb-false` read
-pub returns-in-default : goal.returns-in-default
-returns-in-default c = line_none c.args.a c.args.b (length c.args.out.now) c.args.s.now (λ ns t e l. let w = line_words _ _ _ ns t l in omega (arith, ltb-true))
+pub returns-in_default : goal.returns-in_default
+returns-in_default c = line_none c.args.a c.args.b (length c.args.out.now) c.args.s.now (λ ns t e l. let w = line_words _ _ _ ns t l in omega (arith, ltb-true))
 
 pub returns-then-first-a : goal.returns-then-first-a
 returns-then-first-a c = line_none c.args.a c.args.b (length c.args.out.now) c.args.s.now (λ ns t e l.
@@ -27,17 +27,17 @@ returns-then-first-a c = line_none c.args.a c.args.b (length c.args.out.now) c.a
       | then-first-a-via-else-first-a+then-second-b v ↦ v.if-second-b.true w.2
     ])
 
-pub returns-in-default-read-words : goal.returns-in-default-read-words
-returns-in-default-read-words c = line_none c.args.a c.args.b (length c.args.out.now) c.args.s.now (λ ns t e l. c.in-default-read-words.ensures ns (10 ∷ t) e (there c.args.s.now ns (10 ∷ t) (line_words _ _ _ ns t l).3))
+pub returns-in_default-read_words : goal.returns-in_default-read_words
+returns-in_default-read_words c = line_none c.args.a c.args.b (length c.args.out.now) c.args.s.now (λ ns t e l. c.in_default-read_words.ensures ns (10 ∷ t) e (there c.args.s.now ns (10 ∷ t) (line_words _ _ _ ns t l).3))
 
-pub returns-in-default-end : goal.returns-in-default-end
-returns-in-default-end c = line_none c.args.a c.args.b (length c.args.out.now) c.args.s.now (λ ns t e l.
+pub returns-in_default-end : goal.returns-in_default-end
+returns-in_default-end c = line_none c.args.a c.args.b (length c.args.out.now) c.args.s.now (λ ns t e l.
     let w = there c.args.s.now ns (10 ∷ t) (line_words _ _ _ ns t l).3 in
-    let k : length c.read-words.new.out ≡ length ns = omega arith in
-    let f : c.in-Some.end.now ≡ 10 ∷ t = (words_end _ c.read-words.new.out c.in-Some.end.now ns (10 ∷ t) c.in-Some.ensures w k).1 in
+    let k : length c.read_words.new.out ≡ length ns = omega arith in
+    let f : c.in-Some.end.now ≡ 10 ∷ t = (words_end _ c.read_words.new.out c.in-Some.end.now ns (10 ∷ t) c.in-Some.ensures w k).1 in
     let len = ap length f in
     let one : get_or c.in-Some.end.now 0 0 ≡ 10 = ap (λ (x : List ℕ). get_or x 0 0) f in
-    elim c.in-default-end.branch [ in-default-end-via-then-end-lt1 v ↦ omega (arith, ltb-true) | in-default-end-via-else-end-lt1+in-default· v ↦ omega arith ])
+    elim c.in_default-end.branch [ in_default-end-via-then-end-lt1 v ↦ omega (arith, ltb-true) | in_default-end-via-else-end-lt1+in_default· v ↦ omega arith ])
 
 pub returns : goal.returns
 returns c =
@@ -46,7 +46,7 @@ returns c =
     let some : 0 < length end = omega (arith, ltb-false) in
     let ten : get_or end 0 0 ≡ 10 = search rules in
     let f : end ≡ 10 ∷ take (length end - 1) (drop 1 end) = first_rest end 0 some ∙ ap (λ (b : ℕ). b ∷ take (length end - 1) (drop 1 end)) ten in
-    let P : List ℕ → Type 0 = λ x. Words (drop 2 c.args.s.now) c.read-words.new.out x in
-    let l = words_line _ _ _ _ _ two c.if-first-a.false c.if-second-b.false (subst P f (back c.args.s.now c.read-words.new.out end c.in-Some.ensures)) in
-    let k : length c.read-words.new.out ≡ length c.args.out.now = omega arith in
+    let P : List ℕ → Type 0 = λ x. Words (drop 2 c.args.s.now) c.read_words.new.out x in
+    let l = words_line _ _ _ _ _ two c.if-first-a.false c.if-second-b.false (subst P f (back c.args.s.now c.read_words.new.out end c.in-Some.ensures)) in
+    let k : length c.read_words.new.out ≡ length c.args.out.now = omega arith in
     (ap (λ (n : ℕ). line c.args.a c.args.b n c.args.s.now) (sym k) ∙ line_finds _ _ _ _ _ l, l.small)

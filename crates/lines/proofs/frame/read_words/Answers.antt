@@ -13,8 +13,8 @@ stuck s out rest i h p none ns t e q =
     let w = subst P (ap (λ (k : ℕ). drop k ns) l ∙ drop_more ns i 0 (omega arith)) r in
     none (get_or ns i 0) w.0 w.1
 
-pub returns-in-default : goal.returns-in-default
-returns-in-default c ns t e q = stuck c.args.s.now c.loop-w.out c.loop-w.rest.now c.loop-w.w-index (omega arith) c.loop-w.invariant c.in-default.ensures ns t (omega arith) q
+pub returns-in_default : goal.returns-in_default
+returns-in_default c ns t e q = stuck c.args.s.now c.loop-w.out c.loop-w.rest.now c.loop-w.w-index (omega arith) c.loop-w.invariant c.in_default.ensures ns t (omega arith) q
 
 pub loop-w-preserved : goal.loop-w-preserved
 loop-w-preserved c =

@@ -31,11 +31,11 @@ returns-then-d-eq16 c = record {
 is_digit : (c : goal.Else-d-eq16) → digit_of (get_or c.args.s.now c.loop-i.i 0) < 16
 is_digit c = let a = digit_le (get_or c.args.s.now c.loop-i.i 0) in let e = c.digit-d.ensures in let f = c.if-d-eq16.false in omega arith
 
-pub overflow-mul-n : goal.overflow-mul-n
-overflow-mul-n c = let h = fits_six c.loop-i.n c.loop-i.i (omega arith) c.loop-i.invariant.2 in omega arith
+pub overflow_mul-n : goal.overflow_mul-n
+overflow_mul-n c = let h = fits_six c.loop-i.n c.loop-i.i (omega arith) c.loop-i.invariant.2 in omega arith
 
-pub overflow-add-n : goal.overflow-add-n
-overflow-add-n c = let h = fits_six c.loop-i.n c.loop-i.i (omega arith) c.loop-i.invariant.2 in let d = is_digit c in omega (arith, c.digit-d.ensures)
+pub overflow_add-n : goal.overflow_add-n
+overflow_add-n c = let h = fits_six c.loop-i.n c.loop-i.i (omega arith) c.loop-i.invariant.2 in let d = is_digit c in omega (arith, c.digit-d.ensures)
 
 pub loop-i-preserved : goal.loop-i-preserved
 loop-i-preserved c =

@@ -14,6 +14,6 @@ returns c =
     let some : 0 < length s = omega (arith, ltb-false) in
     let space : get_or s 0 0 ≡ 32 = search rules in
     let e : s ≡ 32 ∷ take (length s - 1) (drop 1 s) = first_rest s 0 some ∙ ap (λ (b : ℕ). b ∷ take (length s - 1) (drop 1 s)) space in
-    carried c.read-word.result c.read-word.ensures
+    carried c.read_word.result c.read_word.ensures
     (λ none n t p. let P : List ℕ → Type 0 = λ f. Word f n t in none n t (subst P (tails p.from _ (sym p.space ∙ e)) p.word))
     (λ p w. record { from = _; space = e; word = w })

@@ -8,11 +8,11 @@ use Rattle.lines.proofs.reader.fill_quads.Goals as goal
 pub loop-q-init : goal.loop-q-init
 loop-q-init c = (refl, ([], sofar_none 48 49 8 c.args.count c.args.body.now, laid_none (λ ns. take 4 ns) 0 c.args.corners.now refl, laid_none (λ ns. take 2 (drop 4 ns)) 0 c.args.friends.now refl, laid_none (λ ns. take 2 (drop 6 ns)) 0 c.args.marks.now refl))
 
-pub returns-in-default : goal.returns-in-default
-returns-in-default c rows t e =
+pub returns-in_default : goal.returns-in_default
+returns-in_default c rows t e =
     let p = c.loop-q.invariant.1 in
     let w : length c.loop-q.row ≡ 8 = c.loop-q.invariant.0 in
-    let b = sofar_bad 48 49 8 c.args.count c.args.body.now p.0 c.loop-q.q c.loop-q.rest.now (omega arith) p.1 (ap (λ (k : ℕ). line 48 49 k c.loop-q.rest.now) (sym w) ∙ c.in-default.ensures) in
+    let b = sofar_bad 48 49 8 c.args.count c.args.body.now p.0 c.loop-q.q c.loop-q.rest.now (omega arith) p.1 (ap (λ (k : ℕ). line 48 49 k c.loop-q.rest.now) (sym w) ∙ c.in_default.ensures) in
     let z : ◌≡◌ {A = ℕ} 0 1 = cc in
     omega arith
 
@@ -27,7 +27,7 @@ pub loop-q-preserved : goal.loop-q-preserved
 loop-q-preserved c =
     let p = c.loop-q.invariant.1 in
     let q = c.loop-q.q in
-    let out = c.read-line.new.out in
+    let out = c.read_line.new.out in
     let w : length c.loop-q.row ≡ 8 = c.loop-q.invariant.0 in
     let n : length out ≡ 8 = omega arith in
     let x = four out n in

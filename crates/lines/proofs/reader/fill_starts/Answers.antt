@@ -7,11 +7,11 @@ use Rattle.lines.proofs.reader.fill_starts.Goals as goal
 pub loop-v-init : goal.loop-v-init
 loop-v-init c = (refl, ([], sofar_none 48 50 1 c.args.count c.args.text.now, laid_none (λ ns. ns) 0 c.args.starts.now refl))
 
-pub returns-in-default : goal.returns-in-default
-returns-in-default c rows t e =
+pub returns-in_default : goal.returns-in_default
+returns-in_default c rows t e =
     let p = c.loop-v.invariant.1 in
     let w : length c.loop-v.row ≡ 1 = c.loop-v.invariant.0 in
-    let b = sofar_bad 48 50 1 c.args.count c.args.text.now p.0 c.loop-v.v c.loop-v.rest.now (omega arith) p.1 (ap (λ (k : ℕ). line 48 50 k c.loop-v.rest.now) (sym w) ∙ c.in-default.ensures) in
+    let b = sofar_bad 48 50 1 c.args.count c.args.text.now p.0 c.loop-v.v c.loop-v.rest.now (omega arith) p.1 (ap (λ (k : ℕ). line 48 50 k c.loop-v.rest.now) (sym w) ∙ c.in_default.ensures) in
     let z : ◌≡◌ {A = ℕ} 0 1 = cc in
     absurd (omega arith)
 
@@ -19,7 +19,7 @@ pub loop-v-preserved : goal.loop-v-preserved
 loop-v-preserved c =
     let p = c.loop-v.invariant.1 in
     let v = c.loop-v.v in
-    let out = c.read-line.new.out in
+    let out = c.read_line.new.out in
     let w : length c.loop-v.row ≡ 1 = c.loop-v.invariant.0 in
     let n : length out ≡ 1 = omega arith in (
       n,

@@ -6,18 +6,18 @@ use Rattle.lines.specs.Reading.{refused, good}
 use Rattle.lines.proofs.Bodies.{quad_missing, start_missing, all_there, surplus}
 use Rattle.lines.proofs.reader.judge.Goals as goal
 
-pub returns-in-err-starts : goal.returns-in-err-starts
-returns-in-err-starts c =
+pub returns-in_err-starts : goal.returns-in_err-starts
+returns-in_err-starts c =
     let p = err_from_is_err_and c.from-residual.result c.from-residual.ensures.1 in
-    let h = c.in-err-starts.ensures in
+    let h = c.in_err-starts.ensures in
     rw (p.1, p.2) (quad_missing c.args.counts.quads c.args.counts.points c.args.body.now h.0 h.2 ∙ ap refused (sym h.1))
 
-pub returns-in-err-rest : goal.returns-in-err-rest
-returns-in-err-rest c =
-    let p = err_from_is_err_and c.from-residual-in-err-rest.result c.from-residual-in-err-rest.ensures.1 in
-    let q = c.in-ok-starts.ensures in
-    let h = c.in-err-rest.ensures in
-    rw (p.1, p.2) (start_missing c.args.counts.quads c.args.counts.points c.args.body.now q.0 c.in-ok-starts.starts.now q.1 h.0 h.2 ∙ ap refused (sym h.1))
+pub returns-in_err-rest : goal.returns-in_err-rest
+returns-in_err-rest c =
+    let p = err_from_is_err_and c.from-residual-in_err-rest.result c.from-residual-in_err-rest.ensures.1 in
+    let q = c.in_ok-starts.ensures in
+    let h = c.in_err-rest.ensures in
+    rw (p.1, p.2) (start_missing c.args.counts.quads c.args.counts.points c.args.body.now q.0 c.in_ok-starts.starts.now q.1 h.0 h.2 ∙ ap refused (sym h.1))
 
 some_left : (w : List ℕ) (r : Bool) → r ≡ eqb (length w) 0 → r ≡ false → 0 < length w
 some_left w r e f = grind (arith, nat_tests)
@@ -25,17 +25,17 @@ some_left w r e f = grind (arith, nat_tests)
 none_left : (w : List ℕ) (r : Bool) → r ≡ eqb (length w) 0 → r ≡ true → length w ≡ 0
 none_left w r e f = grind (arith, nat_tests)
 
-pub returns-then-not-is-empty : goal.returns-then-not-is-empty
-returns-then-not-is-empty c =
-    let q = c.in-ok-starts.ensures in
-    let s = c.in-ok-rest.ensures in
-    surplus c.args.counts.quads c.args.counts.points c.args.body.now q.0 c.in-ok-starts.starts.now q.1 s.0 c.in-ok-rest.rest.now s.1
-    (some_left c.in-ok-rest.rest.now c.is-empty.result c.is-empty.ensures c.if-not-is-empty.true)
+pub returns-then-not-is_empty : goal.returns-then-not-is_empty
+returns-then-not-is_empty c =
+    let q = c.in_ok-starts.ensures in
+    let s = c.in_ok-rest.ensures in
+    surplus c.args.counts.quads c.args.counts.points c.args.body.now q.0 c.in_ok-starts.starts.now q.1 s.0 c.in_ok-rest.rest.now s.1
+    (some_left c.in_ok-rest.rest.now c.is_empty.result c.is_empty.ensures c.if-not-is_empty.true)
 
 pub returns : goal.returns
 returns c =
-    let q = c.in-ok-starts.ensures in
-    let s = c.in-ok-rest.ensures in
-    let rest = c.in-ok-rest.rest.now in
-    let z = nil_from_length rest (none_left rest c.is-empty.result c.is-empty.ensures c.if-not-is-empty.false) in
-    (_, all_there c.args.counts.quads c.args.counts.points c.args.body.now q.0 c.in-ok-starts.starts.now q.1 s.0 (s.1 ∙ ap (good s.0) z))
+    let q = c.in_ok-starts.ensures in
+    let s = c.in_ok-rest.ensures in
+    let rest = c.in_ok-rest.rest.now in
+    let z = nil_from_length rest (none_left rest c.is_empty.result c.is_empty.ensures c.if-not-is_empty.false) in
+    (_, all_there c.args.counts.quads c.args.counts.points c.args.body.now q.0 c.in_ok-starts.starts.now q.1 s.0 (s.1 ∙ ap (good s.0) z))

@@ -11,17 +11,17 @@ loop-k-init c = (refl, (_, sofar_none 48 c.args.kind c.args.words c.args.count c
 lent : (row : List ℕ) (k : ℕ) → length row ≡ 8 → k ≤ 8 → length (take (k - 0) row) ≡ k
 lent row k e h = let l = length-take-le (k - 0) row (omega arith) in omega arith
 
-pub returns-in-default : goal.returns-in-default
-returns-in-default c =
+pub returns-in_default : goal.returns-in_default
+returns-in_default c =
     let p = c.loop-k.invariant.1 in
     let w = lent c.loop-k.row c.args.words c.loop-k.invariant.0 c.requires.few in
-    (c.loop-k.k, refl, sofar_bad 48 c.args.kind c.args.words c.args.count c.args.text.now p.0 c.loop-k.k c.loop-k.rest.now (omega arith) p.1 (ap (λ (k : ℕ). line 48 c.args.kind k c.loop-k.rest.now) (sym w) ∙ c.in-default.ensures))
+    (c.loop-k.k, refl, sofar_bad 48 c.args.kind c.args.words c.args.count c.args.text.now p.0 c.loop-k.k c.loop-k.rest.now (omega arith) p.1 (ap (λ (k : ℕ). line 48 c.args.kind k c.loop-k.rest.now) (sym w) ∙ c.in_default.ensures))
 
 pub loop-k-preserved : goal.loop-k-preserved
 loop-k-preserved c =
     let p = c.loop-k.invariant.1 in
     let w = lent c.loop-k.row c.args.words c.loop-k.invariant.0 c.requires.few in
-    (search (rules, places), (_, sofar_more 48 c.args.kind c.args.words c.args.count c.args.text.now p.0 c.loop-k.k c.loop-k.rest.now c.read-line.new.out c.in-Some.more.now (omega arith) p.1 (ap (λ (k : ℕ). line 48 c.args.kind k c.loop-k.rest.now) (sym w) ∙ c.in-Some.ensures.0)))
+    (search (rules, places), (_, sofar_more 48 c.args.kind c.args.words c.args.count c.args.text.now p.0 c.loop-k.k c.loop-k.rest.now c.read_line.new.out c.in-Some.more.now (omega arith) p.1 (ap (λ (k : ℕ). line 48 c.args.kind k c.loop-k.rest.now) (sym w) ∙ c.in-Some.ensures.0)))
 
 pub returns : goal.returns
 returns c =

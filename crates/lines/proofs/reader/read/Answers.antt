@@ -6,9 +6,9 @@ use Rattle.lines.proofs.Bodies.{roomy_parts, no_heading, no_room, with_room, hel
 use Rattle.lines.proofs.Exactly.{images}
 use Rattle.lines.proofs.reader.read.Goals as goal
 
-pub returns-in-default : goal.returns-in-default
-returns-in-default c =
-    let e = no_heading c.args.text.now (room c.args.corners.now c.args.friends.now c.args.marks.now c.args.starts.now) c.in-default.ensures.found in
+pub returns-in_default : goal.returns-in_default
+returns-in_default c =
+    let e = no_heading c.args.text.now (room c.args.corners.now c.args.friends.now c.args.marks.now c.args.starts.now) c.in_default.ensures.found in
     let a = ap answer (sym e) in
     let h = held _ _ c.args.corners.now c.args.friends.now c.args.marks.now c.args.starts.now e in
     record { answer = a; tables = h; images = images _ _ _ _ _ _ _ _ _ _ a h }
@@ -20,12 +20,12 @@ returns-then-not-fit c =
     let h = held _ _ c.args.corners.now c.args.friends.now c.args.marks.now c.args.starts.now e in
     record { answer = a; tables = h; images = images _ _ _ _ _ _ _ _ _ _ a h }
 
-pub returns-in-err-judge : goal.returns-in-err-judge
-returns-in-err-judge c =
+pub returns-in_err-judge : goal.returns-in_err-judge
+returns-in_err-judge c =
     let p = err_from_is_err_and c.from-residual.result c.from-residual.ensures.1 in
     let r = room c.args.corners.now c.args.friends.now c.args.marks.now c.args.starts.now in
     let w = with_room c.args.text.now r c.in-Some.counts.quads c.in-Some.counts.points c.in-Some.body.now c.in-Some.ensures.found (sym c.fit.ensures ∙ c.if-not-fit.false) in
-    let e = w ∙ c.in-err-judge.ensures in
+    let e = w ∙ c.in_err-judge.ensures in
     let a = p.1 ∙ ap Err p.2 ∙ ap answer (sym e) in
     let h = held _ _ c.args.corners.now c.args.friends.now c.args.marks.now c.args.starts.now e in
     record { answer = a; tables = h; images = images _ _ _ _ _ _ _ _ _ _ a h }
@@ -42,7 +42,7 @@ returns c =
     let v = c.in-Some.counts.points in
     let r = room c.args.corners.now c.args.friends.now c.args.marks.now c.args.starts.now in
     let w = with_room c.args.text.now r f v c.in-Some.body.now c.in-Some.ensures.found (sym c.fit.ensures ∙ c.if-not-fit.false) in
-    let j = c.in-ok-judge.ensures in
+    let j = c.in_ok-judge.ensures in
     let b = accepted_from_rows f v c.in-Some.body.now j.0 j.1 in
     let e = w ∙ j.1 in
     let P : Reading → Type 0 = λ x. Holds x c.args.corners.now c.args.friends.now c.args.marks.now c.args.starts.now c.fill.new.corners c.fill.new.friends c.fill.new.marks c.fill.new.starts in

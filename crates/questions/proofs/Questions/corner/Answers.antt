@@ -6,8 +6,8 @@ use Rattle.questions.proofs.Questions.corner.Goals as goal
 
 pub returns-then-c-tables : goal.returns-then-c-tables
 unfolding mesh_of
-returns-then-c-tables g c = no_such (g.Self.Questions.asked c.args.self.now) c.args.level c.in-ok-tables.tables c.in-ok-tables.ensures (λ m. 4 * m.quads) c.args.corner.0 (CornerIs c.args.corner.0) (let k = c.in-ok-tables.ensures.shape.corner_count in omega arith)
+returns-then-c-tables g c = no_such (g.Self.Questions.asked c.args.self.now) c.args.level c.in_ok-tables.tables c.in_ok-tables.ensures (λ m. 4 * m.quads) c.args.corner.0 (CornerIs c.args.corner.0) (let k = c.in_ok-tables.ensures.shape.corner_count in omega arith)
 
 pub returns : goal.returns
 unfolding mesh_of
-returns g c = tells (g.Self.Questions.asked c.args.self.now) c.args.level c.in-ok-tables.tables c.in-ok-tables.ensures (λ m. 4 * m.quads) c.args.corner.0 (CornerIs c.args.corner.0) _ (let k = c.in-ok-tables.ensures.shape.corner_count in omega arith) refl
+returns g c = tells (g.Self.Questions.asked c.args.self.now) c.args.level c.in_ok-tables.tables c.in_ok-tables.ensures (λ m. 4 * m.quads) c.args.corner.0 (CornerIs c.args.corner.0) _ (let k = c.in_ok-tables.ensures.shape.corner_count in omega arith) refl

@@ -4,10 +4,10 @@ use Rattle.bench.specs.Questions.{CountsAre}
 use Rattle.questions.proofs.Asks.{tells}
 use Rattle.questions.proofs.Questions.counts.Goals as goal
 
-pub overflow-cast-result-2 : goal.overflow-cast-result-2
+pub overflow_cast-result-2 : goal.overflow_cast-result-2
 unfolding mesh_of
-overflow-cast-result-2 g c = let b = c.in-ok-tables.ensures in let q = b.quads_few in let p = b.points_few in omega arith
+overflow_cast-result-2 g c = let b = c.in_ok-tables.ensures in let q = b.quads_few in let p = b.points_few in omega arith
 
 pub returns : goal.returns
 unfolding mesh_of
-returns g c = tells (g.Self.Questions.asked c.args.self.now) c.args.level c.in-ok-tables.tables c.in-ok-tables.ensures (λ m. 1) 0 CountsAre _ (omega arith) (c.quads.ensures, refl)
+returns g c = tells (g.Self.Questions.asked c.args.self.now) c.args.level c.in_ok-tables.tables c.in_ok-tables.ensures (λ m. 1) 0 CountsAre _ (omega arith) (c.quads.ensures, refl)

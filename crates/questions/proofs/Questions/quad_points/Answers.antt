@@ -10,7 +10,7 @@ pub bounds-tables-q : goal.bounds-tables-q
 unfolding mesh_of
 bounds-tables-q g c =
     let q = c.quads.ensures in
-    let k = c.in-ok-tables.ensures.shape.corner_count in
+    let k = c.in_ok-tables.ensures.shape.corner_count in
     let h = c.if-q-quads.false in
     omega arith
 
@@ -18,7 +18,7 @@ pub bounds-tables-q-2 : goal.bounds-tables-q-2
 unfolding mesh_of
 bounds-tables-q-2 g c =
     let q = c.quads.ensures in
-    let k = c.in-ok-tables.ensures.shape.corner_count in
+    let k = c.in_ok-tables.ensures.shape.corner_count in
     let h = c.if-q-quads.false in
     omega arith
 
@@ -26,7 +26,7 @@ pub bounds-tables-q-3 : goal.bounds-tables-q-3
 unfolding mesh_of
 bounds-tables-q-3 g c =
     let q = c.quads.ensures in
-    let k = c.in-ok-tables.ensures.shape.corner_count in
+    let k = c.in_ok-tables.ensures.shape.corner_count in
     let h = c.if-q-quads.false in
     omega arith
 
@@ -34,7 +34,7 @@ pub bounds-tables-q-4 : goal.bounds-tables-q-4
 unfolding mesh_of
 bounds-tables-q-4 g c =
     let q = c.quads.ensures in
-    let k = c.in-ok-tables.ensures.shape.corner_count in
+    let k = c.in_ok-tables.ensures.shape.corner_count in
     let h = c.if-q-quads.false in
     omega arith
 
@@ -43,9 +43,9 @@ unfolding mesh_of
 returns g c =
     let n = c.quads.ensures in
     let q = c.args.quad.0 in
-    let t = c.in-ok-tables.tables in
+    let t = c.in_ok-tables.tables in
     let h = c.if-q-quads.false in
-    tells (g.Self.Questions.asked c.args.self.now) c.args.level c.in-ok-tables.tables c.in-ok-tables.ensures
+    tells (g.Self.Questions.asked c.args.self.now) c.args.level c.in_ok-tables.tables c.in_ok-tables.ensures
     (λ m. m.quads) c.args.quad.0 (QuadIs c.args.quad.0)
     (record { 0 = point (mesh t) (4 * q) } ∷ record { 0 = point (mesh t) (4 * q + 1) } ∷ record { 0 = point (mesh t) (4 * q + 2) } ∷ record { 0 = point (mesh t) (4 * q + 3) } ∷ [])
     (omega arith) refl

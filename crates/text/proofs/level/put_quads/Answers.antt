@@ -16,8 +16,8 @@ next k cs fs ms q h lc lf lm =
     let n = rows_count k cs fs ms in
     joined_next (line_text 48 49) (quad_rows k cs fs ms) q (omega arith) ∙ ap (λ (r : List ℕ). flat_map (line_text 48 49) (take q (quad_rows k cs fs ms)) ++ line_text 48 49 r) (row_at cs fs ms q k h lc lf lm)
 
-pub put-line-p-requires : goal.put-line-p-requires
-put-line-p-requires c =
+pub put_line-p-requires : goal.put_line-p-requires
+put_line-p-requires c =
     let cs = c.args.corners.now in
     let fs = c.args.friends.now in
     let ms = c.args.marks.now in
@@ -31,9 +31,9 @@ put-line-p-requires c =
 pub loop-q-preserved : goal.loop-q-preserved
 loop-q-preserved c =
     let cs = c.args.corners.now in
-    let P : List ℕ → Type 0 = λ x. Put c.args.out.now c.args.at x c.put-line-p.result c.put-line-p.new.out in
+    let P : List ℕ → Type 0 = λ x. Put c.args.out.now c.args.at x c.put_line-p.result c.put_line-p.new.out in
     subst P (sym (next (length cs / 4) cs c.args.friends.now c.args.marks.now c.loop-q.q (omega arith) c.requires.corner_count c.requires.friend_count c.requires.mark_count))
-    (put_more c.args.out.now c.args.at _ _ c.loop-q.out _ _ c.put-line-p.new.out c.loop-q.invariant c.put-line-p.ensures)
+    (put_more c.args.out.now c.args.at _ _ c.loop-q.out _ _ c.put_line-p.new.out c.loop-q.invariant c.put_line-p.ensures)
 
 pub returns : goal.returns
 returns c =

@@ -16,8 +16,8 @@ next ss v h =
     let n = starts_count ss in
     joined_next (line_text 48 50) (start_rows ss) v (omega arith) ∙ ap (λ (r : List ℕ). flat_map (line_text 48 50) (take v (start_rows ss)) ++ line_text 48 50 r) (start_at ss v h)
 
-pub put-line-p-requires : goal.put-line-p-requires
-put-line-p-requires c =
+pub put_line-p-requires : goal.put_line-p-requires
+put_line-p-requires c =
     let ss = c.args.starts.now in
     let v = c.loop-start.start-index in
     let a = ap length (next ss v (omega arith)) ∙ length-append (flat_map (line_text 48 50) (take v (start_rows ss))) (line_text 48 50 (get_or ss v 0 ∷ [])) in
@@ -27,8 +27,8 @@ put-line-p-requires c =
 
 pub loop-start-preserved : goal.loop-start-preserved
 loop-start-preserved c =
-    let P : List ℕ → Type 0 = λ x. Put c.args.out.now c.args.at x c.put-line-p.result c.put-line-p.new.out in
-    subst P (sym (next c.args.starts.now c.loop-start.start-index (omega arith))) (put_more c.args.out.now c.args.at _ _ c.loop-start.out _ _ c.put-line-p.new.out c.loop-start.invariant c.put-line-p.ensures)
+    let P : List ℕ → Type 0 = λ x. Put c.args.out.now c.args.at x c.put_line-p.result c.put_line-p.new.out in
+    subst P (sym (next c.args.starts.now c.loop-start.start-index (omega arith))) (put_more c.args.out.now c.args.at _ _ c.loop-start.out _ _ c.put_line-p.new.out c.loop-start.invariant c.put_line-p.ensures)
 
 pub returns : goal.returns
 returns c =

@@ -26,39 +26,39 @@ in_parts t = refl
 parts_length : (t : Tables) → length (mesh_text (mesh t)) ≡ length (heading t) + (length (quads_text t) + length (starts_text t))
 parts_length t = ap length (in_parts t) ∙ length-append (heading t) (quads_text t ++ starts_text t) ∙ (let a = length-append (quads_text t) (starts_text t) in omega arith)
 
-pub overflow-cast-counts-2 : goal.overflow-cast-counts-2
-overflow-cast-counts-2 c = let s = sizes c.args.level.now c.requires.lawful in record { fits = omega arith }
+pub overflow_cast-counts-2 : goal.overflow_cast-counts-2
+overflow_cast-counts-2 c = let s = sizes c.args.level.now c.requires.lawful in record { fits = omega arith }
 
 -- the counts as the code has them
 counts : (t : Tables) (q : ℕ) → q ≡ (mesh t).quads → line_text 48 48 (q ∷ (length t.starts.now ∷ [])) ≡ heading t
 unfolding heading
 counts t q e = ap (λ (x : ℕ). line_text 48 48 (x ∷ (length t.starts.now ∷ []))) e
 
-pub put-line-p-requires : goal.put-line-p-requires
-put-line-p-requires c =
+pub put_line-p-requires : goal.put_line-p-requires
+put_line-p-requires c =
     let t = c.args.level.now in
     let h = ap length (counts t c.quads.result c.quads.ensures) in
     let l = parts_length t in
     omega (arith, c.requires.room)
 
-pub put-quads-q-requires : goal.put-quads-q-requires
+pub put_quads-q-requires : goal.put_quads-q-requires
 unfolding quads_text
-put-quads-q-requires c =
+put_quads-q-requires c =
     let t = c.args.level.now in
     let s = sizes t c.requires.lawful in
     let h = ap length (counts t c.quads.result c.quads.ensures) in
     let l = parts_length t in
-    let p = c.put-line-p.ensures.place in
+    let p = c.put_line-p.ensures.place in
     record { corner_count = s.corners_in_fours; friend_count = s.friends_by_quads; mark_count = s.marks_by_quads; room = omega (arith, c.requires.room) }
 
-pub put-starts-requires : goal.put-starts-requires
+pub put_starts-requires : goal.put_starts-requires
 unfolding quads_text starts_text
-put-starts-requires c =
+put_starts-requires c =
     let t = c.args.level.now in
     let h = ap length (counts t c.quads.result c.quads.ensures) in
     let l = parts_length t in
-    let p = c.put-line-p.ensures.place in
-    let q = c.put-quads-q.ensures.place in
+    let p = c.put_line-p.ensures.place in
+    let q = c.put_quads-q.ensures.place in
     omega (arith, c.requires.room)
 
 pub returns : goal.returns
@@ -66,9 +66,9 @@ unfolding quads_text starts_text
 returns c =
     let t = c.args.level.now in
     let e = c.args.out.now in
-    let P : List ℕ → Type 0 = λ x. Put e 0 x c.put-line-p.result c.put-line-p.new.out in
-    let Q : List ℕ → Type 0 = λ x. Put e 0 x c.put-starts.result c.put-starts.new.out in
+    let P : List ℕ → Type 0 = λ x. Put e 0 x c.put_line-p.result c.put_line-p.new.out in
+    let Q : List ℕ → Type 0 = λ x. Put e 0 x c.put_starts.result c.put_starts.new.out in
     subst Q (sym (in_parts t))
-    (put_more e 0 (heading t) c.put-line-p.result c.put-line-p.new.out (quads_text t ++ starts_text t) c.put-starts.result c.put-starts.new.out
-    (subst P (counts t c.quads.result c.quads.ensures) c.put-line-p.ensures)
-    (put_more c.put-line-p.new.out c.put-line-p.result (quads_text t) c.put-quads-q.result c.put-quads-q.new.out (starts_text t) c.put-starts.result c.put-starts.new.out c.put-quads-q.ensures c.put-starts.ensures))
+    (put_more e 0 (heading t) c.put_line-p.result c.put_line-p.new.out (quads_text t ++ starts_text t) c.put_starts.result c.put_starts.new.out
+    (subst P (counts t c.quads.result c.quads.ensures) c.put_line-p.ensures)
+    (put_more c.put_line-p.new.out c.put_line-p.result (quads_text t) c.put_quads-q.result c.put_quads-q.new.out (starts_text t) c.put_starts.result c.put_starts.new.out c.put_quads-q.ensures c.put_starts.ensures))

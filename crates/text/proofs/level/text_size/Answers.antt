@@ -5,35 +5,35 @@ use Rattle.text.proofs.LinesOf.{bytes, text_bytes}
 use Rattle.text.proofs.Sizes.{Sizes, sizes}
 use Rattle.text.proofs.level.text_size.Goals as goal
 
-pub overflow-cast-points : goal.overflow-cast-points
-overflow-cast-points c = let s = sizes c.args.level.now c.requires in record { fits = omega arith }
+pub overflow_cast-points : goal.overflow_cast-points
+overflow_cast-points c = let s = sizes c.args.level.now c.requires in record { fits = omega arith }
 
-pub words-size-corners-requires : goal.words-size-corners-requires
-words-size-corners-requires c = let s = sizes c.args.level.now c.requires in omega arith
+pub words_size-corners-requires : goal.words_size-corners-requires
+words_size-corners-requires c = let s = sizes c.args.level.now c.requires in omega arith
 
-pub words-size-friends-requires : goal.words-size-friends-requires
-words-size-friends-requires c = let s = sizes c.args.level.now c.requires in omega arith
+pub words_size-friends-requires : goal.words_size-friends-requires
+words_size-friends-requires c = let s = sizes c.args.level.now c.requires in omega arith
 
-pub words-size-marks-requires : goal.words-size-marks-requires
-words-size-marks-requires c = let s = sizes c.args.level.now c.requires in omega arith
+pub words_size-marks-requires : goal.words_size-marks-requires
+words_size-marks-requires c = let s = sizes c.args.level.now c.requires in omega arith
 
-pub words-size-starts-requires : goal.words-size-starts-requires
-words-size-starts-requires c = let s = sizes c.args.level.now c.requires in omega arith
+pub words_size-starts-requires : goal.words_size-starts-requires
+words_size-starts-requires c = let s = sizes c.args.level.now c.requires in omega arith
 
-pub overflow-add-result-3 : goal.overflow-add-result-3
-overflow-add-result-3 c = let s = sizes c.args.level.now c.requires in record { fits = omega arith }
+pub overflow_add-result-3 : goal.overflow_add-result-3
+overflow_add-result-3 c = let s = sizes c.args.level.now c.requires in record { fits = omega arith }
 
-pub overflow-add-result-4 : goal.overflow-add-result-4
-overflow-add-result-4 c = let s = sizes c.args.level.now c.requires in record { fits = omega arith }
+pub overflow_add-result-4 : goal.overflow_add-result-4
+overflow_add-result-4 c = let s = sizes c.args.level.now c.requires in record { fits = omega arith }
 
-pub overflow-add-result-5 : goal.overflow-add-result-5
-overflow-add-result-5 c = let s = sizes c.args.level.now c.requires in record { fits = omega arith }
+pub overflow_add-result-5 : goal.overflow_add-result-5
+overflow_add-result-5 c = let s = sizes c.args.level.now c.requires in record { fits = omega arith }
 
-pub overflow-add-result-6 : goal.overflow-add-result-6
-overflow-add-result-6 c = let s = sizes c.args.level.now c.requires in record { fits = omega arith }
+pub overflow_add-result-6 : goal.overflow_add-result-6
+overflow_add-result-6 c = let s = sizes c.args.level.now c.requires in record { fits = omega arith }
 
-pub overflow-add-result-7 : goal.overflow-add-result-7
-overflow-add-result-7 c = let s = sizes c.args.level.now c.requires in record { fits = omega arith }
+pub overflow_add-result-7 : goal.overflow_add-result-7
+overflow_add-result-7 c = let s = sizes c.args.level.now c.requires in record { fits = omega arith }
 
 pub returns : goal.returns
 unfolding mesh_of

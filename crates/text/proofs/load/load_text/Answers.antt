@@ -16,8 +16,8 @@ returns-in-Err c =
     let e = was_refused (reading c.args.text.now r) c.in-Err.fault h.answer in
     record { call = unread (state c.args.bench.now) c.args.text.now r c.in-Err.fault e; tables = h.tables; loaded = tt; whose = e }
 
-pub load-front-requires : goal.load-front-requires
-load-front-requires c =
+pub load_front-requires : goal.load_front-requires
+load_front-requires c =
     let r = room c.args.corners.now c.args.friends.now c.args.marks.now c.args.starts.now in
     let h = c.in-Ok.ensures in
     let w = was_read (reading c.args.text.now r) c.in-Ok.counts h.answer in
@@ -26,8 +26,8 @@ load-front-requires c =
     let v = w.points-are in
     record { corner_room = omega arith; friend_room = omega arith; mark_room = omega arith; start_room = omega arith }
 
-pub returns-in-err-load-front : goal.returns-in-err-load-front
-returns-in-err-load-front c =
+pub returns-in_err-load_front : goal.returns-in_err-load_front
+returns-in_err-load_front c =
     let p = err_from_is_err_and c.from-residual.result c.from-residual.ensures.1 in
     let r = room c.args.corners.now c.args.friends.now c.args.marks.now c.args.starts.now in
     let h = c.in-Ok.ensures in
@@ -35,10 +35,10 @@ returns-in-err-load-front c =
     let P : Reading → Type 0 = λ o. Holds o c.args.corners.now c.args.friends.now c.args.marks.now c.args.starts.now c.read.new.corners c.read.new.friends c.read.new.marks c.read.new.starts in
     let g = loaded w.mesh c.args.text.now r w.is c.in-Ok.counts c.args.corners.now c.args.friends.now c.args.marks.now c.args.starts.now c.read.new.corners c.read.new.friends c.read.new.marks c.read.new.starts w.quads-are w.points-are (subst P w.is h.tables) in
     let q = p.1 ∙ ap Err p.2 in
-    let C : Result (Unit {0}) TextFault → Type 0 = λ x. Called (state c.args.bench.now) (load_text c.args.text.now r) (state c.load-front.new.bench) (told_text x) in
-    let L : Result (Unit {0}) TextFault → Type 0 = Loaded c.args.text.now (state c.load-front.new.bench) in
+    let C : Result (Unit {0}) TextFault → Type 0 = λ x. Called (state c.args.bench.now) (load_text c.args.text.now r) (state c.load_front.new.bench) (told_text x) in
+    let L : Result (Unit {0}) TextFault → Type 0 = Loaded c.args.text.now (state c.load_front.new.bench) in
     let W : Result (Unit {0}) TextFault → Type 0 = Whose (reading c.args.text.now r) in
-    record { call = subst C (sym q) (g _ _ _ c.in-err-load-front.ensures); tables = h.tables; loaded = subst L (sym q) tt; whose = subst W (sym q) (w.mesh, w.is) }
+    record { call = subst C (sym q) (g _ _ _ c.in_err-load_front.ensures); tables = h.tables; loaded = subst L (sym q) tt; whose = subst W (sym q) (w.mesh, w.is) }
 
 pub returns : goal.returns
 returns c =
@@ -47,6 +47,6 @@ returns c =
     let w = was_read (reading c.args.text.now r) c.in-Ok.counts h.answer in
     let P : Reading → Type 0 = λ o. Holds o c.args.corners.now c.args.friends.now c.args.marks.now c.args.starts.now c.read.new.corners c.read.new.friends c.read.new.marks c.read.new.starts in
     let g = loaded w.mesh c.args.text.now r w.is c.in-Ok.counts c.args.corners.now c.args.friends.now c.args.marks.now c.args.starts.now c.read.new.corners c.read.new.friends c.read.new.marks c.read.new.starts w.quads-are w.points-are (subst P w.is h.tables) in
-    let d = g _ _ _ c.in-ok-load-front.ensures in
+    let d = g _ _ _ c.in_ok-load_front.ensures in
     let t = stands w.mesh c.args.text.now r w.is c.in-Ok.counts c.args.corners.now c.args.friends.now c.args.marks.now c.args.starts.now c.read.new.corners c.read.new.friends c.read.new.marks c.read.new.starts w.quads-are w.points-are (subst P w.is h.tables) _ _ d in
     record { call = d; tables = h.tables; loaded = t; whose = (w.mesh, w.is) }

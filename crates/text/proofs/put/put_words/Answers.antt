@@ -9,8 +9,8 @@ pub loop-w-init : goal.loop-w-init
 unfolding words_text
 loop-w-init c = put_none c.args.out.now c.args.at (omega (arith, c.requires))
 
-pub put-word-p-requires : goal.put-word-p-requires
-put-word-p-requires c =
+pub put_word-p-requires : goal.put_word-p-requires
+put_word-p-requires c =
     let ws = c.args.words.now in
     let i = c.loop-w.w-index in
     let a = length_more ws i (omega arith) in
@@ -20,8 +20,8 @@ put-word-p-requires c =
 
 pub loop-w-preserved : goal.loop-w-preserved
 loop-w-preserved c =
-    let P : List ℕ → Type 0 = λ x. Put c.args.out.now c.args.at x c.put-word-p.result c.put-word-p.new.out in
-    subst P (sym (words_more c.args.words.now c.loop-w.w-index (omega arith))) (put_more c.args.out.now c.args.at _ _ c.loop-w.out _ _ c.put-word-p.new.out c.loop-w.invariant c.put-word-p.ensures)
+    let P : List ℕ → Type 0 = λ x. Put c.args.out.now c.args.at x c.put_word-p.result c.put_word-p.new.out in
+    subst P (sym (words_more c.args.words.now c.loop-w.w-index (omega arith))) (put_more c.args.out.now c.args.at _ _ c.loop-w.out _ _ c.put_word-p.new.out c.loop-w.invariant c.put_word-p.ensures)
 
 pub returns : goal.returns
 returns c =

@@ -9,15 +9,15 @@ use Rattle.attributes.proofs.coordinates.blend.more.Goals as goal
 product : (c : goal.After-from-2) → to_z w64 (of_z w64 c.from.result) *ℤ to_z w64 (of_z w64 c.from-2.result) ≡ pos c.args.times *ℤ c.args.at
 product c =
     ap₂ ◌*ℤ◌
-    (to_z-of_z w64 _ (record { sfits = c.from.type-inv }) ∙ c.from.ensures)
-    (to_z-of_z w64 _ (record { sfits = c.from-2.type-inv }) ∙ c.from-2.ensures ∙ to_z-of_z w32 _ c.ranges.at)
+    (to_z-of_z w64 _ (record { sfits = c.from.type_inv }) ∙ c.from.ensures)
+    (to_z-of_z w64 _ (record { sfits = c.from-2.type_inv }) ∙ c.from-2.ensures ∙ to_z-of_z w32 _ c.ranges.at)
 
-pub overflow-mul-result : goal.overflow-mul-result
-overflow-mul-result c =
+pub overflow_mul-result : goal.overflow_mul-result
+overflow_mul-result c =
     subst (SFits w64) (sym (product c)) (omega (arith, ints, product_small c.args.times c.args.at c.requires.limited))
 
-pub overflow-add-result : goal.overflow-add-result
-overflow-add-result c =
+pub overflow_add-result : goal.overflow_add-result
+overflow_add-result c =
     subst (λ p. SFits w64 (to_z w64 (of_z w64 c.args.sum) +ℤ to_z w64 (of_z w64 p))) (sym (product c))
     (omega (arith, ints, product_small c.args.times c.args.at c.requires.limited))
 

@@ -15,25 +15,25 @@ returns-in-Empty c =
     let b = c.args.self.now in
     record { call = refused_at b.mark b.quads b.points b.words.cells.now b.stage Empty c.in-Empty.is begin_call 12 0 refl; slip = tt }
 
-pub returns-then-quads-gt-MOST-QUADS : goal.returns-then-quads-gt-MOST-QUADS
-returns-then-quads-gt-MOST-QUADS c =
+pub returns-then-quads-gt-MOST_QUADS : goal.returns-then-quads-gt-MOST_QUADS
+returns-then-quads-gt-MOST_QUADS c =
     let b = c.args.self.now in
-    record { call = too_large b.mark b.quads b.points b.words.cells.now b.stage c.in-Standing.is c.if-quads-gt-MOST-QUADS.true; slip = tt }
+    record { call = too_large b.mark b.quads b.points b.words.cells.now b.stage c.in-Standing.is c.if-quads-gt-MOST_QUADS.true; slip = tt }
 
 pub returns-then-self-quads : goal.returns-then-self-quads
 returns-then-self-quads c =
     let b = c.args.self.now in
-    record { call = too_few b.mark b.quads b.points b.words.cells.now b.stage c.in-Standing.is c.if-quads-gt-MOST-QUADS.false c.if-self-quads.true; slip = tt }
+    record { call = too_few b.mark b.quads b.points b.words.cells.now b.stage c.in-Standing.is c.if-quads-gt-MOST_QUADS.false c.if-self-quads.true; slip = tt }
 
-pub invariant-of-self : goal.invariant-of-self
-invariant-of-self c =
+pub invariant_of-self : goal.invariant_of-self
+invariant_of-self c =
     let b = c.args.self.now in
-    begin_keeps b.mark b.quads b.points b.words.cells.now b.stage _ c.in-Standing.is b.few b.lawful c.if-quads-gt-MOST-QUADS.false c.if-self-quads.false c.blank.ensures
+    begin_keeps b.mark b.quads b.points b.words.cells.now b.stage _ c.in-Standing.is b.few b.lawful c.if-quads-gt-MOST_QUADS.false c.if-self-quads.false c.blank.ensures
 
 pub returns-else-self-quads : goal.returns-else-self-quads
 returns-else-self-quads c =
     let b = c.args.self.now in
     record {
-      call = begin_carried b.mark b.quads b.points b.words.cells.now b.stage _ c.in-Standing.is c.if-quads-gt-MOST-QUADS.false c.if-self-quads.false c.blank.ensures;
+      call = begin_carried b.mark b.quads b.points b.words.cells.now b.stage _ c.in-Standing.is c.if-quads-gt-MOST_QUADS.false c.if-self-quads.false c.blank.ensures;
       slip = c.new.ensures;
     }

@@ -10,15 +10,15 @@ use Rattle.bench.proofs.bench.Bench.corner.Goals as goal
 pub returns-then-c-tables : goal.returns-then-c-tables
 unfolding mesh_of
 returns-then-c-tables c =
-    let b = c.in-ok-tables.ensures in
-    let t = c.in-ok-tables.tables in
+    let b = c.in_ok-tables.ensures in
+    let t = c.in_ok-tables.tables in
     no_such (state c.args.self.now) c.args.level (λ m. 4 * m.quads) c.args.corner.0 (CornerIs c.args.corner.0) (mesh t) (NoSuchNumber c.args.corner.0) b.there b.is
     (let k = b.shape.corner_count in omega arith) refl
 
 pub returns : goal.returns
 unfolding mesh_of
 returns c =
-    let b = c.in-ok-tables.ensures in
-    let t = c.in-ok-tables.tables in
+    let b = c.in_ok-tables.ensures in
+    let t = c.in_ok-tables.tables in
     tells (state c.args.self.now) c.args.level (λ m. 4 * m.quads) c.args.corner.0 (CornerIs c.args.corner.0) (mesh t) _ b.there b.is
     (let k = b.shape.corner_count in omega arith) (refl)

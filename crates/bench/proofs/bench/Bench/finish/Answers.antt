@@ -28,16 +28,16 @@ returns-then-lowest-quads c =
       slip = refl;
     }
 
-pub invariant-of-self : goal.invariant-of-self
-invariant-of-self c =
+pub invariant_of-self : goal.invariant_of-self
+invariant_of-self c =
     let b = c.args.self.now in
-    finish_keeps b.mark b.quads b.points b.words.cells.now b.stage _ c.in-Working.is b.few b.room b.lawful b.written (omega (arith, c.lowest-lowest.ensures)) c.bring-down.ensures
+    finish_keeps b.mark b.quads b.points b.words.cells.now b.stage _ c.in-Working.is b.few b.room b.lawful b.written (omega (arith, c.lowest-lowest.ensures)) c.bring_down.ensures
 
 pub returns-else-lowest-quads : goal.returns-else-lowest-quads
 returns-else-lowest-quads c =
     let b = c.args.self.now in
     let room = working_room b.mark b.quads b.points b.words.cells.now b.stage c.in-Working.is b.room in
     record {
-      call = finish_carried b.mark b.quads b.points b.words.cells.now b.stage c.args.slip.mark _ c.in-Working.is (sym c.mark.ensures ∙ c.if-mark-self.false) (omega (arith, c.lowest-lowest.ensures)) room c.bring-down.ensures;
+      call = finish_carried b.mark b.quads b.points b.words.cells.now b.stage c.args.slip.mark _ c.in-Working.is (sym c.mark.ensures ∙ c.if-mark-self.false) (omega (arith, c.lowest-lowest.ensures)) room c.bring_down.ensures;
       slip = tt;
     }

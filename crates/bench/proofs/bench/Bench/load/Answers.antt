@@ -14,20 +14,20 @@ pub returns-in-Working : goal.returns-in-Working
 returns-in-Working c =
     let b = c.args.self.now in
     let t = c.args.tables.now in
-    load_in_work b.mark b.quads b.points b.words.cells.now b.stage t.corners.now t.friends.now t.marks.now t.starts.now c.in-Working.is c.in-default.ensures
+    load_in_work b.mark b.quads b.points b.words.cells.now b.stage t.corners.now t.friends.now t.marks.now t.starts.now c.in-Working.is c.in_default.ensures
 
-pub overflow-mul-quads : goal.overflow-mul-quads
-overflow-mul-quads c =
+pub overflow_mul-quads : goal.overflow_mul-quads
+overflow_mul-quads c =
     let t = c.args.tables.now in
-    let few = judged_few t.corners.now t.friends.now t.marks.now t.starts.now c.in-default.ensures in
+    let few = judged_few t.corners.now t.friends.now t.marks.now t.starts.now c.in_default.ensures in
     let q = few.0 in
     omega (arith, c.quads-quads.ensures)
 
-pub overflow-add-quads : goal.overflow-add-quads
+pub overflow_add-quads : goal.overflow_add-quads
 unfolding mesh_of
-overflow-add-quads c =
+overflow_add-quads c =
     let t = c.args.tables.now in
-    let few = judged_few t.corners.now t.friends.now t.marks.now t.starts.now c.in-default.ensures in
+    let few = judged_few t.corners.now t.friends.now t.marks.now t.starts.now c.in_default.ensures in
     let q = few.0 in
     let p = few.1 in
     omega (arith, c.quads-quads.ensures)
@@ -37,41 +37,41 @@ unfolding mesh_of
 returns-then-self-quads c =
     let b = c.args.self.now in
     let t = c.args.tables.now in
-    load_too_few b.mark b.quads b.points b.words.cells.now b.stage t.corners.now t.friends.now t.marks.now t.starts.now _ _ c.quads-quads.ensures refl c.in-default-stage.not-Working c.in-default.ensures c.if-self-quads.true
+    load_too_few b.mark b.quads b.points b.words.cells.now b.stage t.corners.now t.friends.now t.marks.now t.starts.now _ _ c.quads-quads.ensures refl c.in_default-stage.not-Working c.in_default.ensures c.if-self-quads.true
 
-pub lay-tables-requires : goal.lay-tables-requires
+pub lay_tables-requires : goal.lay_tables-requires
 unfolding mesh_of
-lay-tables-requires c =
+lay_tables-requires c =
     let t = c.args.tables.now in
-    record { shape = ((judged_lawful t.corners.now t.friends.now t.marks.now t.starts.now c.in-default.ensures).sound.counted, c.quads-quads.ensures); room = c.if-self-quads.false }
+    record { shape = ((judged_lawful t.corners.now t.friends.now t.marks.now t.starts.now c.in_default.ensures).sound.counted, c.quads-quads.ensures); room = c.if-self-quads.false }
 
-pub overflow-cast-self : goal.overflow-cast-self
-overflow-cast-self c =
+pub overflow_cast-self : goal.overflow_cast-self
+overflow_cast-self c =
     let t = c.args.tables.now in
-    let few = judged_few t.corners.now t.friends.now t.marks.now t.starts.now c.in-default.ensures in
+    let few = judged_few t.corners.now t.friends.now t.marks.now t.starts.now c.in_default.ensures in
     let q = few.0 in
     omega (arith, c.quads-quads.ensures)
 
-pub overflow-cast-self-2 : goal.overflow-cast-self-2
+pub overflow_cast-self-2 : goal.overflow_cast-self-2
 unfolding mesh_of
-overflow-cast-self-2 c =
+overflow_cast-self-2 c =
     let t = c.args.tables.now in
-    let few = judged_few t.corners.now t.friends.now t.marks.now t.starts.now c.in-default.ensures in
+    let few = judged_few t.corners.now t.friends.now t.marks.now t.starts.now c.in_default.ensures in
     let q = few.0 in
     let p = few.1 in
     omega arith
 
-pub invariant-of-self : goal.invariant-of-self
+pub invariant_of-self : goal.invariant_of-self
 unfolding mesh_of
-invariant-of-self c =
+invariant_of-self c =
     let b = c.args.self.now in
     let t = c.args.tables.now in
-    load_keeps t.corners.now t.friends.now t.marks.now t.starts.now c.in-default.ensures b.mark _ _ b.words.cells.now _ c.quads-quads.ensures refl c.if-self-quads.false c.lay-tables.ensures
+    load_keeps t.corners.now t.friends.now t.marks.now t.starts.now c.in_default.ensures b.mark _ _ b.words.cells.now _ c.quads-quads.ensures refl c.if-self-quads.false c.lay_tables.ensures
 
 pub returns : goal.returns
 unfolding mesh_of
 returns c =
     let b = c.args.self.now in
     let t = c.args.tables.now in
-    load_carried b.mark b.quads b.points b.words.cells.now b.stage t.corners.now t.friends.now t.marks.now t.starts.now _ _ c.quads-quads.ensures refl _ c.in-default-stage.not-Working c.in-default.ensures
-    (load_laid t.corners.now t.friends.now t.marks.now t.starts.now c.in-default.ensures b.words.cells.now _ _ c.quads-quads.ensures c.if-self-quads.false c.lay-tables.ensures) c.if-self-quads.false
+    load_carried b.mark b.quads b.points b.words.cells.now b.stage t.corners.now t.friends.now t.marks.now t.starts.now _ _ c.quads-quads.ensures refl _ c.in_default-stage.not-Working c.in_default.ensures
+    (load_laid t.corners.now t.friends.now t.marks.now t.starts.now c.in_default.ensures b.words.cells.now _ _ c.quads-quads.ensures c.if-self-quads.false c.lay_tables.ensures) c.if-self-quads.false

@@ -21,14 +21,14 @@ returns-then-point-self c =
     let b = c.args.self.now in
     record { call = no_such_point b.mark b.quads b.points b.words.cells.now b.stage c.args.point.0 c.in-Working.is c.if-point-self.true; count = tt }
 
-pub left-after-left-requires : goal.left-after-left-requires
-left-after-left-requires c =
+pub left_after-left-requires : goal.left_after-left-requires
+left_after-left-requires c =
     let b = c.args.self.now in
     let room = working_room b.mark b.quads b.points b.words.cells.now b.stage c.in-Working.is b.room in
     ((room, omega arith), working_count b.mark b.quads b.points b.words.cells.now b.stage b.left c.in-Working.is b.count)
 
-pub run-point-requires : goal.run-point-requires
-run-point-requires c =
+pub run_point-requires : goal.run_point-requires
+run_point-requires c =
     let b = c.args.self.now in
     record {
       room = working_room b.mark b.quads b.points b.words.cells.now b.stage c.in-Working.is b.room;
@@ -37,18 +37,18 @@ run-point-requires c =
       range = working_range b.mark b.quads b.points b.words.cells.now b.stage c.in-Working.is b.lawful;
     }
 
-pub invariant-of-self : goal.invariant-of-self
-invariant-of-self c =
+pub invariant_of-self : goal.invariant_of-self
+invariant_of-self c =
     let b = c.args.self.now in
-    task_keeps b.mark b.quads b.points b.words.cells.now b.stage (point_task c.args.point.0) _ _ c.in-Working.is b.few b.room b.lawful b.written c.if-point-self.false c.left-after-left.ensures c.run-point.ensures
+    task_keeps b.mark b.quads b.points b.words.cells.now b.stage (point_task c.args.point.0) _ _ c.in-Working.is b.few b.room b.lawful b.written c.if-point-self.false c.left_after-left.ensures c.run_point.ensures
 
 pub returns-else-point-self : goal.returns-else-point-self
 returns-else-point-self c =
     let b = c.args.self.now in
     let room = working_room b.mark b.quads b.points b.words.cells.now b.stage c.in-Working.is b.room in
     let range = working_range b.mark b.quads b.points b.words.cells.now b.stage c.in-Working.is b.lawful in
-    let kept = task_keeps b.mark b.quads b.points b.words.cells.now b.stage (point_task c.args.point.0) _ _ c.in-Working.is b.few b.room b.lawful b.written c.if-point-self.false c.left-after-left.ensures c.run-point.ensures in
+    let kept = task_keeps b.mark b.quads b.points b.words.cells.now b.stage (point_task c.args.point.0) _ _ c.in-Working.is b.few b.room b.lawful b.written c.if-point-self.false c.left_after-left.ensures c.run_point.ensures in
     record {
-      call = point_carried b.mark b.quads b.points b.words.cells.now b.stage c.args.point.0 _ c.in-Working.is c.if-point-self.false range room c.run-point.ensures;
+      call = point_carried b.mark b.quads b.points b.words.cells.now b.stage c.args.point.0 _ c.in-Working.is c.if-point-self.false range room c.run_point.ensures;
       count = kept.1.1.1.1.0;
     }

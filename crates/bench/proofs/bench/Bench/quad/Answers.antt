@@ -21,14 +21,14 @@ returns-then-quad-self c =
     let b = c.args.self.now in
     record { call = no_such_quad b.mark b.quads b.points b.words.cells.now b.stage c.args.quad.0 c.in-Working.is c.if-quad-self.true; count = tt }
 
-pub left-after-left-requires : goal.left-after-left-requires
-left-after-left-requires c =
+pub left_after-left-requires : goal.left_after-left-requires
+left_after-left-requires c =
     let b = c.args.self.now in
     let room = working_room b.mark b.quads b.points b.words.cells.now b.stage c.in-Working.is b.room in
     ((room, omega arith), working_count b.mark b.quads b.points b.words.cells.now b.stage b.left c.in-Working.is b.count)
 
-pub run-quad-requires : goal.run-quad-requires
-run-quad-requires c =
+pub run_quad-requires : goal.run_quad-requires
+run_quad-requires c =
     let b = c.args.self.now in
     record {
       room = working_room b.mark b.quads b.points b.words.cells.now b.stage c.in-Working.is b.room;
@@ -37,18 +37,18 @@ run-quad-requires c =
       range = working_range b.mark b.quads b.points b.words.cells.now b.stage c.in-Working.is b.lawful;
     }
 
-pub invariant-of-self : goal.invariant-of-self
-invariant-of-self c =
+pub invariant_of-self : goal.invariant_of-self
+invariant_of-self c =
     let b = c.args.self.now in
-    task_keeps b.mark b.quads b.points b.words.cells.now b.stage (quad_task c.args.quad.0) _ _ c.in-Working.is b.few b.room b.lawful b.written c.if-quad-self.false c.left-after-left.ensures c.run-quad.ensures
+    task_keeps b.mark b.quads b.points b.words.cells.now b.stage (quad_task c.args.quad.0) _ _ c.in-Working.is b.few b.room b.lawful b.written c.if-quad-self.false c.left_after-left.ensures c.run_quad.ensures
 
 pub returns-else-quad-self : goal.returns-else-quad-self
 returns-else-quad-self c =
     let b = c.args.self.now in
     let room = working_room b.mark b.quads b.points b.words.cells.now b.stage c.in-Working.is b.room in
     let range = working_range b.mark b.quads b.points b.words.cells.now b.stage c.in-Working.is b.lawful in
-    let kept = task_keeps b.mark b.quads b.points b.words.cells.now b.stage (quad_task c.args.quad.0) _ _ c.in-Working.is b.few b.room b.lawful b.written c.if-quad-self.false c.left-after-left.ensures c.run-quad.ensures in
+    let kept = task_keeps b.mark b.quads b.points b.words.cells.now b.stage (quad_task c.args.quad.0) _ _ c.in-Working.is b.few b.room b.lawful b.written c.if-quad-self.false c.left_after-left.ensures c.run_quad.ensures in
     record {
-      call = quad_carried b.mark b.quads b.points b.words.cells.now b.stage c.args.quad.0 _ c.in-Working.is c.if-quad-self.false range room c.run-quad.ensures;
+      call = quad_carried b.mark b.quads b.points b.words.cells.now b.stage c.args.quad.0 _ c.in-Working.is c.if-quad-self.false range room c.run_quad.ensures;
       count = kept.1.1.1.1.0;
     }

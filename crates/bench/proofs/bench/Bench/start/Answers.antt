@@ -10,15 +10,15 @@ use Rattle.bench.proofs.bench.Bench.start.Goals as goal
 pub returns-then-v-tables : goal.returns-then-v-tables
 unfolding mesh_of
 returns-then-v-tables c =
-    let b = c.in-ok-tables.ensures in
-    let t = c.in-ok-tables.tables in
+    let b = c.in_ok-tables.ensures in
+    let t = c.in_ok-tables.tables in
     no_such (state c.args.self.now) c.args.level (λ m. m.points) c.args.point.0 (StartIs c.args.point.0) (mesh t) (NoSuchNumber c.args.point.0) b.there b.is
     c.if-v-tables.true refl
 
 pub returns : goal.returns
 unfolding mesh_of
 returns c =
-    let b = c.in-ok-tables.ensures in
-    let t = c.in-ok-tables.tables in
+    let b = c.in_ok-tables.ensures in
+    let t = c.in_ok-tables.tables in
     tells (state c.args.self.now) c.args.level (λ m. m.points) c.args.point.0 (StartIs c.args.point.0) (mesh t) _ b.there b.is
     c.if-v-tables.false (refl)

@@ -23,8 +23,8 @@ returns-then-mark-self c =
       slip = refl;
     }
 
-pub invariant-of-self : goal.invariant-of-self
-invariant-of-self c =
+pub invariant_of-self : goal.invariant_of-self
+invariant_of-self c =
     let b = c.args.self.now in
     withdraw_keeps b.mark b.quads b.points b.words.cells.now b.stage c.in-Working.is b.few b.room b.lawful
 

@@ -6,5 +6,5 @@ pub returns : goal.returns
 returns c =
     let n = length c.args.xs.now in
     let i : c.args.at + (c.args.at + n - c.args.at) ≡ c.args.at + n = omega arith in
-    let f : c.copy-from-slice.new.self ≡ c.args.xs.now = search rules in
+    let f : c.copy_from_slice.new.self ≡ c.args.xs.now = search rules in
     rw (f, drop-drop, i)

@@ -7,4 +7,4 @@ pub returns : goal.returns
 returns c =
     let ws = c.args.self.now.cells.now in
     point_writes c.args.quads c.args.points c.args.v _ _ ws
-    (slot_at (standing_in ws c.args.quads c.args.points) _ _ _ c.old-slot-slot.ensures refl) c.start-start.ensures
+    (slot_at (standing_in ws c.args.quads c.args.points) _ _ _ c.old_slot-slot.ensures refl) c.start-start.ensures

@@ -3,26 +3,26 @@ use Rattle.refinement.specs.Tasks.{fallen}
 use Rattle.bench.proofs.Tasks.{length_after, quad_writes}
 use Rattle.bench.proofs.words.Words.run_quad.Goals as goal
 
-pub put-friends-requires : goal.put-friends-requires
-put-friends-requires c =
-    let l1 = length_after _ _ _ c.put-row.ensures in
+pub put_friends-requires : goal.put_friends-requires
+put_friends-requires c =
+    let l1 = length_after _ _ _ c.put_row.ensures in
     let b0 : c.friend-g0.result < 2 * c.args.quads = omega (arith, c.friend-g0.ensures, c.requires.range.friends_are_edges (2 * c.args.q) (omega arith)) in
     let b1 : c.friend-g1.result < 2 * c.args.quads = omega (arith, c.friend-g1.ensures, c.requires.range.friends_are_edges (2 * c.args.q + 1) (omega arith)) in
     ((omega arith, omega arith), (omega arith, omega arith), (omega arith, omega arith))
 
-pub put-marks-requires : goal.put-marks-requires
-put-marks-requires c =
-    let l1 = length_after _ _ _ c.put-row.ensures in
-    let l2 = length_after _ _ _ c.put-friends.ensures in
+pub put_marks-requires : goal.put_marks-requires
+put_marks-requires c =
+    let l1 = length_after _ _ _ c.put_row.ensures in
+    let l2 = length_after _ _ _ c.put_friends.ensures in
     let b0 : c.friend-g0.result < 2 * c.args.quads = omega (arith, c.friend-g0.ensures, c.requires.range.friends_are_edges (2 * c.args.q) (omega arith)) in
     let b1 : c.friend-g1.result < 2 * c.args.quads = omega (arith, c.friend-g1.ensures, c.requires.range.friends_are_edges (2 * c.args.q + 1) (omega arith)) in
     ((omega arith, omega arith), (omega arith, omega arith), (omega arith, omega arith))
 
-pub put-starts-requires : goal.put-starts-requires
-put-starts-requires c =
-    let l1 = length_after _ _ _ c.put-row.ensures in
-    let l2 = length_after _ _ _ c.put-friends.ensures in
-    let l3 = length_after _ _ _ c.put-marks.ensures in
+pub put_starts-requires : goal.put_starts-requires
+put_starts-requires c =
+    let l1 = length_after _ _ _ c.put_row.ensures in
+    let l2 = length_after _ _ _ c.put_friends.ensures in
+    let l3 = length_after _ _ _ c.put_marks.ensures in
     let p = c.requires.range.points_enough in
     let b0 : c.friend-g0.result < 2 * c.args.quads = omega (arith, c.friend-g0.ensures, c.requires.range.friends_are_edges (2 * c.args.q) (omega arith)) in
     let b1 : c.friend-g1.result < 2 * c.args.quads = omega (arith, c.friend-g1.ensures, c.requires.range.friends_are_edges (2 * c.args.q + 1) (omega arith)) in
@@ -30,16 +30,16 @@ put-starts-requires c =
 
 pub bounds-self-quads : goal.bounds-self-quads
 bounds-self-quads c =
-    let l1 = length_after _ _ _ c.put-row.ensures in
-    let l2 = length_after _ _ _ c.put-friends.ensures in
-    let l3 = length_after _ _ _ c.put-marks.ensures in
-    let l4 = length_after _ _ _ c.put-starts.ensures in
+    let l1 = length_after _ _ _ c.put_row.ensures in
+    let l2 = length_after _ _ _ c.put_friends.ensures in
+    let l3 = length_after _ _ _ c.put_marks.ensures in
+    let l4 = length_after _ _ _ c.put_starts.ensures in
     omega arith
 
 pub returns : goal.returns
 returns c =
     quad_writes c.args.quads c.args.points c.args.q _ _ _ _ c.args.self.now.cells.now _ _ _ _ _ _
     c.friend-g0.ensures c.friend-g1.ensures
-    (c.fallen-mark-m0.ensures ∙ ap fallen c.mark.ensures) (c.fallen-mark-m1.ensures ∙ ap fallen c.mark-2.ensures)
-    (c.quad-row-row.ensures c.friend-g0.ensures c.friend-g1.ensures)
-    c.put-row.ensures c.put-friends.ensures c.put-marks.ensures c.put-starts.ensures refl
+    (c.fallen_mark-m0.ensures ∙ ap fallen c.mark.ensures) (c.fallen_mark-m1.ensures ∙ ap fallen c.mark-2.ensures)
+    (c.quad_row-row.ensures c.friend-g0.ensures c.friend-g1.ensures)
+    c.put_row.ensures c.put_friends.ensures c.put_marks.ensures c.put_starts.ensures refl

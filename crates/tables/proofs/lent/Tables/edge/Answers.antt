@@ -21,8 +21,8 @@ pub returns-in-None : goal.returns-in-None
 unfolding mesh_of
 returns-in-None c r = c.in-None.ensures r.a_mark
 
-pub record-with-requires : goal.record-with-requires
+pub record_with-requires : goal.record_with-requires
 unfolding mesh_of
-record-with-requires c =
+record_with-requires c =
     let w = c.in-Some.ensures in
     (record { in_corners = omega arith; in_friends = omega arith; in_marks = omega arith; a_mark = subst MarkWord w (marks_are_words.0 c.in-Some.mark) }, w)

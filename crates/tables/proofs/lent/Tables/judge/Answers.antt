@@ -8,93 +8,93 @@ use Rattle.tables.specs.Lent.{mesh}
 use Rattle.tables.proofs.Passes.{then, judged, sized, worded, started}
 use Rattle.tables.proofs.lent.Tables.judge.Goals as goal
 
-pub judge-corners-requires : goal.judge-corners-requires
-judge-corners-requires c = sized _ c.in-ok-judge-shape.ensures c.in-ok-judge-quads.ensures c.in-ok-judge-points.ensures
+pub judge_corners-requires : goal.judge_corners-requires
+judge_corners-requires c = sized _ c.in_ok-judge_shape.ensures c.in_ok-judge_quads.ensures c.in_ok-judge_points.ensures
 
-pub judge-friends-requires : goal.judge-friends-requires
-judge-friends-requires c = sized _ c.in-ok-judge-shape.ensures c.in-ok-judge-quads.ensures c.in-ok-judge-points.ensures
+pub judge_friends-requires : goal.judge_friends-requires
+judge_friends-requires c = sized _ c.in_ok-judge_shape.ensures c.in_ok-judge_quads.ensures c.in_ok-judge_points.ensures
 
-pub judge-marks-requires : goal.judge-marks-requires
-judge-marks-requires c = sized _ c.in-ok-judge-shape.ensures c.in-ok-judge-quads.ensures c.in-ok-judge-points.ensures
+pub judge_marks-requires : goal.judge_marks-requires
+judge_marks-requires c = sized _ c.in_ok-judge_shape.ensures c.in_ok-judge_quads.ensures c.in_ok-judge_points.ensures
 
-pub judge-pairs-requires : goal.judge-pairs-requires
-judge-pairs-requires c = worded _ (sized _ c.in-ok-judge-shape.ensures c.in-ok-judge-quads.ensures c.in-ok-judge-points.ensures) c.in-ok-judge-friends.ensures c.in-ok-judge-marks.ensures
+pub judge_pairs-requires : goal.judge_pairs-requires
+judge_pairs-requires c = worded _ (sized _ c.in_ok-judge_shape.ensures c.in_ok-judge_quads.ensures c.in_ok-judge_points.ensures) c.in_ok-judge_friends.ensures c.in_ok-judge_marks.ensures
 
-pub judge-starts-requires : goal.judge-starts-requires
-judge-starts-requires c = sized _ c.in-ok-judge-shape.ensures c.in-ok-judge-quads.ensures c.in-ok-judge-points.ensures
+pub judge_starts-requires : goal.judge_starts-requires
+judge_starts-requires c = sized _ c.in_ok-judge_shape.ensures c.in_ok-judge_quads.ensures c.in_ok-judge_points.ensures
 
-pub judge-walks-requires : goal.judge-walks-requires
-judge-walks-requires c = started _ (worded _ (sized _ c.in-ok-judge-shape.ensures c.in-ok-judge-quads.ensures c.in-ok-judge-points.ensures) c.in-ok-judge-friends.ensures c.in-ok-judge-marks.ensures) c.in-ok-judge-starts.ensures
+pub judge_walks-requires : goal.judge_walks-requires
+judge_walks-requires c = started _ (worded _ (sized _ c.in_ok-judge_shape.ensures c.in_ok-judge_quads.ensures c.in_ok-judge_points.ensures) c.in_ok-judge_friends.ensures c.in_ok-judge_marks.ensures) c.in_ok-judge_starts.ensures
 
-pub returns-in-err-judge-shape : goal.returns-in-err-judge-shape
+pub returns-in_err-judge_shape : goal.returns-in_err-judge_shape
 unfolding then
-returns-in-err-judge-shape c =
+returns-in_err-judge_shape c =
     let p = err_from_is_err_and c.from-residual.result c.from-residual.ensures.1 in
-    rw (p.1, p.2) (judged (mesh c.args.self.now) _ _ _ _ _ _ _ _ _ _ c.in-err-judge-shape.ensures refl refl refl refl refl refl refl refl refl)
+    rw (p.1, p.2) (judged (mesh c.args.self.now) _ _ _ _ _ _ _ _ _ _ c.in_err-judge_shape.ensures refl refl refl refl refl refl refl refl refl)
 
-pub returns-in-err-judge-quads : goal.returns-in-err-judge-quads
+pub returns-in_err-judge_quads : goal.returns-in_err-judge_quads
 unfolding then
-returns-in-err-judge-quads c =
-    let p = err_from_is_err_and c.from-residual-in-err-judge-quads.result c.from-residual-in-err-judge-quads.ensures.1 in
-    rw (p.1, p.2) (judged (mesh c.args.self.now) fine _ _ _ _ _ _ _ _ _ c.in-ok-judge-shape.ensures c.in-err-judge-quads.ensures refl refl refl refl refl refl refl refl)
+returns-in_err-judge_quads c =
+    let p = err_from_is_err_and c.from-residual-in_err-judge_quads.result c.from-residual-in_err-judge_quads.ensures.1 in
+    rw (p.1, p.2) (judged (mesh c.args.self.now) fine _ _ _ _ _ _ _ _ _ c.in_ok-judge_shape.ensures c.in_err-judge_quads.ensures refl refl refl refl refl refl refl refl)
 
-pub returns-in-err-judge-points : goal.returns-in-err-judge-points
+pub returns-in_err-judge_points : goal.returns-in_err-judge_points
 unfolding then
-returns-in-err-judge-points c =
-    let p = err_from_is_err_and c.from-residual-in-err-judge-points.result c.from-residual-in-err-judge-points.ensures.1 in
-    rw (p.1, p.2) (judged (mesh c.args.self.now) fine fine _ _ _ _ _ _ _ _ c.in-ok-judge-shape.ensures c.in-ok-judge-quads.ensures c.in-err-judge-points.ensures refl refl refl refl refl refl refl)
+returns-in_err-judge_points c =
+    let p = err_from_is_err_and c.from-residual-in_err-judge_points.result c.from-residual-in_err-judge_points.ensures.1 in
+    rw (p.1, p.2) (judged (mesh c.args.self.now) fine fine _ _ _ _ _ _ _ _ c.in_ok-judge_shape.ensures c.in_ok-judge_quads.ensures c.in_err-judge_points.ensures refl refl refl refl refl refl refl)
 
-pub returns-in-err-judge-corners : goal.returns-in-err-judge-corners
+pub returns-in_err-judge_corners : goal.returns-in_err-judge_corners
 unfolding then
-returns-in-err-judge-corners c =
-    let p = err_from_is_err_and c.from-residual-in-err-judge-corners.result c.from-residual-in-err-judge-corners.ensures.1 in
-    rw (p.1, p.2) (judged (mesh c.args.self.now) fine fine fine _ _ _ _ _ _ _ c.in-ok-judge-shape.ensures c.in-ok-judge-quads.ensures c.in-ok-judge-points.ensures c.in-err-judge-corners.ensures refl refl refl refl refl refl)
+returns-in_err-judge_corners c =
+    let p = err_from_is_err_and c.from-residual-in_err-judge_corners.result c.from-residual-in_err-judge_corners.ensures.1 in
+    rw (p.1, p.2) (judged (mesh c.args.self.now) fine fine fine _ _ _ _ _ _ _ c.in_ok-judge_shape.ensures c.in_ok-judge_quads.ensures c.in_ok-judge_points.ensures c.in_err-judge_corners.ensures refl refl refl refl refl refl)
 
-pub returns-in-err-judge-friends : goal.returns-in-err-judge-friends
+pub returns-in_err-judge_friends : goal.returns-in_err-judge_friends
 unfolding then
-returns-in-err-judge-friends c =
-    let p = err_from_is_err_and c.from-residual-in-err-judge-friends.result c.from-residual-in-err-judge-friends.ensures.1 in
-    rw (p.1, p.2) (judged (mesh c.args.self.now) fine fine fine fine _ _ _ _ _ _ c.in-ok-judge-shape.ensures c.in-ok-judge-quads.ensures c.in-ok-judge-points.ensures c.in-ok-judge-corners.ensures c.in-err-judge-friends.ensures refl refl refl refl refl)
+returns-in_err-judge_friends c =
+    let p = err_from_is_err_and c.from-residual-in_err-judge_friends.result c.from-residual-in_err-judge_friends.ensures.1 in
+    rw (p.1, p.2) (judged (mesh c.args.self.now) fine fine fine fine _ _ _ _ _ _ c.in_ok-judge_shape.ensures c.in_ok-judge_quads.ensures c.in_ok-judge_points.ensures c.in_ok-judge_corners.ensures c.in_err-judge_friends.ensures refl refl refl refl refl)
 
-pub returns-in-err-judge-marks : goal.returns-in-err-judge-marks
+pub returns-in_err-judge_marks : goal.returns-in_err-judge_marks
 unfolding then
-returns-in-err-judge-marks c =
-    let p = err_from_is_err_and c.from-residual-in-err-judge-marks.result c.from-residual-in-err-judge-marks.ensures.1 in
-    rw (p.1, p.2) (judged (mesh c.args.self.now) fine fine fine fine fine _ _ _ _ _ c.in-ok-judge-shape.ensures c.in-ok-judge-quads.ensures c.in-ok-judge-points.ensures c.in-ok-judge-corners.ensures c.in-ok-judge-friends.ensures c.in-err-judge-marks.ensures refl refl refl refl)
+returns-in_err-judge_marks c =
+    let p = err_from_is_err_and c.from-residual-in_err-judge_marks.result c.from-residual-in_err-judge_marks.ensures.1 in
+    rw (p.1, p.2) (judged (mesh c.args.self.now) fine fine fine fine fine _ _ _ _ _ c.in_ok-judge_shape.ensures c.in_ok-judge_quads.ensures c.in_ok-judge_points.ensures c.in_ok-judge_corners.ensures c.in_ok-judge_friends.ensures c.in_err-judge_marks.ensures refl refl refl refl)
 
-pub returns-in-err-judge-pairs : goal.returns-in-err-judge-pairs
+pub returns-in_err-judge_pairs : goal.returns-in_err-judge_pairs
 unfolding then
-returns-in-err-judge-pairs c =
-    let p = err_from_is_err_and c.from-residual-in-err-judge-pairs.result c.from-residual-in-err-judge-pairs.ensures.1 in
-    rw (p.1, p.2) (judged (mesh c.args.self.now) fine fine fine fine fine fine _ _ _ _ c.in-ok-judge-shape.ensures c.in-ok-judge-quads.ensures c.in-ok-judge-points.ensures c.in-ok-judge-corners.ensures c.in-ok-judge-friends.ensures c.in-ok-judge-marks.ensures c.in-err-judge-pairs.ensures refl refl refl)
+returns-in_err-judge_pairs c =
+    let p = err_from_is_err_and c.from-residual-in_err-judge_pairs.result c.from-residual-in_err-judge_pairs.ensures.1 in
+    rw (p.1, p.2) (judged (mesh c.args.self.now) fine fine fine fine fine fine _ _ _ _ c.in_ok-judge_shape.ensures c.in_ok-judge_quads.ensures c.in_ok-judge_points.ensures c.in_ok-judge_corners.ensures c.in_ok-judge_friends.ensures c.in_ok-judge_marks.ensures c.in_err-judge_pairs.ensures refl refl refl)
 
-pub returns-in-err-judge-starts : goal.returns-in-err-judge-starts
+pub returns-in_err-judge_starts : goal.returns-in_err-judge_starts
 unfolding then
-returns-in-err-judge-starts c =
-    let p = err_from_is_err_and c.from-residual-in-err-judge-starts.result c.from-residual-in-err-judge-starts.ensures.1 in
-    rw (p.1, p.2) (judged (mesh c.args.self.now) fine fine fine fine fine fine fine _ _ _ c.in-ok-judge-shape.ensures c.in-ok-judge-quads.ensures c.in-ok-judge-points.ensures c.in-ok-judge-corners.ensures c.in-ok-judge-friends.ensures c.in-ok-judge-marks.ensures c.in-ok-judge-pairs.ensures c.in-err-judge-starts.ensures refl refl)
+returns-in_err-judge_starts c =
+    let p = err_from_is_err_and c.from-residual-in_err-judge_starts.result c.from-residual-in_err-judge_starts.ensures.1 in
+    rw (p.1, p.2) (judged (mesh c.args.self.now) fine fine fine fine fine fine fine _ _ _ c.in_ok-judge_shape.ensures c.in_ok-judge_quads.ensures c.in_ok-judge_points.ensures c.in_ok-judge_corners.ensures c.in_ok-judge_friends.ensures c.in_ok-judge_marks.ensures c.in_ok-judge_pairs.ensures c.in_err-judge_starts.ensures refl refl)
 
-pub returns-in-err-steps : goal.returns-in-err-steps
+pub returns-in_err-steps : goal.returns-in_err-steps
 unfolding then
-returns-in-err-steps c =
-    let p = err_from_is_err_and c.from-residual-in-err-steps.result c.from-residual-in-err-steps.ensures.1 in
-    rw (p.1, p.2) (judged (mesh c.args.self.now) fine fine fine fine fine fine fine fine _ _ c.in-ok-judge-shape.ensures c.in-ok-judge-quads.ensures c.in-ok-judge-points.ensures c.in-ok-judge-corners.ensures c.in-ok-judge-friends.ensures c.in-ok-judge-marks.ensures c.in-ok-judge-pairs.ensures c.in-ok-judge-starts.ensures c.in-err-steps.ensures.verdict refl)
+returns-in_err-steps c =
+    let p = err_from_is_err_and c.from-residual-in_err-steps.result c.from-residual-in_err-steps.ensures.1 in
+    rw (p.1, p.2) (judged (mesh c.args.self.now) fine fine fine fine fine fine fine fine _ _ c.in_ok-judge_shape.ensures c.in_ok-judge_quads.ensures c.in_ok-judge_points.ensures c.in_ok-judge_corners.ensures c.in_ok-judge_friends.ensures c.in_ok-judge_marks.ensures c.in_ok-judge_pairs.ensures c.in_ok-judge_starts.ensures c.in_err-steps.ensures.verdict refl)
 
 pub returns-then-steps-self : goal.returns-then-steps-self
 unfolding then mesh_of
 returns-then-steps-self c =
     let m = mesh c.args.self.now in
-    let n = c.in-ok-judge-shape.ensures in
-    let t = c.in-ok-steps.ensures.steps in
-    let z = (sized m c.in-ok-judge-shape.ensures c.in-ok-judge-quads.ensures c.in-ok-judge-points.ensures).counted.corner_count in
-    judged m fine fine fine fine fine fine fine fine fine _ c.in-ok-judge-shape.ensures c.in-ok-judge-quads.ensures c.in-ok-judge-points.ensures c.in-ok-judge-corners.ensures c.in-ok-judge-friends.ensures c.in-ok-judge-marks.ensures c.in-ok-judge-pairs.ensures c.in-ok-judge-starts.ensures c.in-ok-steps.ensures.verdict
+    let n = c.in_ok-judge_shape.ensures in
+    let t = c.in_ok-steps.ensures.steps in
+    let z = (sized m c.in_ok-judge_shape.ensures c.in_ok-judge_quads.ensures c.in_ok-judge_points.ensures).counted.corner_count in
+    judged m fine fine fine fine fine fine fine fine fine _ c.in_ok-judge_shape.ensures c.in_ok-judge_quads.ensures c.in_ok-judge_points.ensures c.in_ok-judge_corners.ensures c.in_ok-judge_friends.ensures c.in_ok-judge_marks.ensures c.in_ok-judge_pairs.ensures c.in_ok-judge_starts.ensures c.in_ok-steps.ensures.verdict
     (sym (once_fault 10 (all_met m) fine (fails (met_tells m) (λ l. omega arith))))
 
 pub returns : goal.returns
 unfolding then mesh_of
 returns c =
     let m = mesh c.args.self.now in
-    let t = c.in-ok-steps.ensures.steps in
-    let z = (sized m c.in-ok-judge-shape.ensures c.in-ok-judge-quads.ensures c.in-ok-judge-points.ensures).counted.corner_count in
-    judged m fine fine fine fine fine fine fine fine fine _ c.in-ok-judge-shape.ensures c.in-ok-judge-quads.ensures c.in-ok-judge-points.ensures c.in-ok-judge-corners.ensures c.in-ok-judge-friends.ensures c.in-ok-judge-marks.ensures c.in-ok-judge-pairs.ensures c.in-ok-judge-starts.ensures c.in-ok-steps.ensures.verdict
+    let t = c.in_ok-steps.ensures.steps in
+    let z = (sized m c.in_ok-judge_shape.ensures c.in_ok-judge_quads.ensures c.in_ok-judge_points.ensures).counted.corner_count in
+    judged m fine fine fine fine fine fine fine fine fine _ c.in_ok-judge_shape.ensures c.in_ok-judge_quads.ensures c.in_ok-judge_points.ensures c.in_ok-judge_corners.ensures c.in_ok-judge_friends.ensures c.in_ok-judge_marks.ensures c.in_ok-judge_pairs.ensures c.in_ok-judge_starts.ensures c.in_ok-steps.ensures.verdict
     (sym (once_on 10 (all_met m) fine ((met_tells m).passes (omega arith))))

@@ -5,9 +5,9 @@ use Rattle.refinement.proofs.Tests.{fails, corner_tells}
 use Rattle.tables.specs.Lent.{mesh}
 use Rattle.tables.proofs.lent.Tables.judge_corners.Goals as goal
 
-pub overflow-cast-result : goal.overflow-cast-result
+pub overflow_cast-result : goal.overflow_cast-result
 unfolding mesh_of
-overflow-cast-result c = let n = c.requires.counted.corner_count in let q = c.requires.quads_few in omega arith
+overflow_cast-result c = let n = c.requires.counted.corner_count in let q = c.requires.quads_few in omega arith
 
 pub loop-c-preserved : goal.loop-c-preserved
 unfolding mesh_of

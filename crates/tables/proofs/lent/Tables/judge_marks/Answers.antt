@@ -6,22 +6,22 @@ use Rattle.tables.specs.Lent.{mesh}
 use Rattle.tables.proofs.Marks.{mark_word, no_mark_word}
 use Rattle.tables.proofs.lent.Tables.judge_marks.Goals as goal
 
-pub overflow-cast-result : goal.overflow-cast-result
+pub overflow_cast-result : goal.overflow_cast-result
 unfolding mesh_of
-overflow-cast-result c = let n = c.requires.counted.mark_count in let q = c.requires.quads_few in omega arith
+overflow_cast-result c = let n = c.requires.counted.mark_count in let q = c.requires.quads_few in omega arith
 
 pub loop-o-preserved : goal.loop-o-preserved
 unfolding mesh_of
 loop-o-preserved c =
     below_more _ _ c.loop-o.invariant ((mark_tells (mesh c.args.self.now) c.loop-o.o).passes
-    (mark_word c.from-word.result _ c.from-word.ensures c.if-is-none.ensures))
+    (mark_word c.from_word.result _ c.from_word.ensures c.if-is_none.ensures))
 
-pub returns-then-is-none : goal.returns-then-is-none
+pub returns-then-is_none : goal.returns-then-is_none
 unfolding mesh_of
-returns-then-is-none c =
+returns-then-is_none c =
     let m = mesh c.args.self.now in
     let n = c.requires.counted.mark_count in
-    sym (each_fault 6 (mark_ok m) _ _ c.loop-o.o (omega arith) (fails (mark_tells m c.loop-o.o) (no_mark_word c.from-word.result _ c.from-word.ensures c.if-is-none.ensures)) c.loop-o.invariant)
+    sym (each_fault 6 (mark_ok m) _ _ c.loop-o.o (omega arith) (fails (mark_tells m c.loop-o.o) (no_mark_word c.from_word.result _ c.from_word.ensures c.if-is_none.ensures)) c.loop-o.invariant)
 
 pub returns : goal.returns
 unfolding mesh_of

@@ -7,9 +7,9 @@ use Rattle.tables.proofs.Reading.{all_read, runs_back, back_at_end, back_at_begi
 use Rattle.tables.proofs.lent.Tables.judge_pairs.Goals as goal
 use Rattle.tables.proofs.lent.Tables.judge_pairs.Goals.{then-self-from-via-then-self-from, then-self-from-via-else-self-from+then-self-from-2}
 
-pub overflow-cast-off : goal.overflow-cast-off
+pub overflow_cast-off : goal.overflow_cast-off
 unfolding mesh_of
-overflow-cast-off c = let n = c.requires.sized.counted.friend_count in let q = c.requires.sized.quads_few in omega arith
+overflow_cast-off c = let n = c.requires.sized.counted.friend_count in let q = c.requires.sized.quads_few in omega arith
 
 pub record-record-requires : goal.record-record-requires
 unfolding mesh_of

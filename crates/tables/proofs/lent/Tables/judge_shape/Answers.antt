@@ -6,9 +6,9 @@ use Rattle.tables.specs.Lent.{mesh}
 use Rattle.tables.proofs.lent.Tables.judge_shape.Goals as goal
 use Rattle.tables.proofs.lent.Tables.judge_shape.Goals.{then-self-quads-via-then-self-quads, then-self-quads-via-else-self-quads+then-self-quads-2, then-self-quads-via-else-self-quads+else-self-quads-2+then-self-quads-3}
 
-pub overflow-mul-quads : goal.overflow-mul-quads
+pub overflow_mul-quads : goal.overflow_mul-quads
 unfolding mesh_of
-overflow-mul-quads c = let e = c.quads-quads.ensures in omega arith
+overflow_mul-quads c = let e = c.quads-quads.ensures in omega arith
 
 pub returns-then-self-quads : goal.returns-then-self-quads
 unfolding mesh_of

@@ -6,9 +6,9 @@ use Rattle.tables.specs.Lent.{mesh}
 use Rattle.tables.proofs.lent.Tables.judge_starts.Goals as goal
 use Rattle.tables.proofs.lent.Tables.judge_starts.Goals.{then-c-self-via-then-c-self, then-c-self-via-else-c-self+then-self-c}
 
-pub overflow-cast-result : goal.overflow-cast-result
+pub overflow_cast-result : goal.overflow_cast-result
 unfolding mesh_of
-overflow-cast-result c = let n = c.requires.counted.start_count in let q = c.requires.quads_few in omega arith
+overflow_cast-result c = let n = c.requires.counted.start_count in let q = c.requires.quads_few in omega arith
 
 pub loop-v-preserved : goal.loop-v-preserved
 unfolding mesh_of

@@ -14,13 +14,13 @@ pub valence-valence-requires : goal.valence-valence-requires
 unfolding mesh_of
 valence-valence-requires c = (c.requires.worded, c.requires.starts_are_corners c.loop-v.v (omega arith))
 
-pub overflow-cast-result : goal.overflow-cast-result
+pub overflow_cast-result : goal.overflow_cast-result
 unfolding mesh_of
-overflow-cast-result c = let q = c.requires.worded.sized.quads_few in let p = c.requires.worded.sized.points_few in omega arith
+overflow_cast-result c = let q = c.requires.worded.sized.quads_few in let p = c.requires.worded.sized.points_few in omega arith
 
-pub overflow-add-steps : goal.overflow-add-steps
+pub overflow_add-steps : goal.overflow_add-steps
 unfolding mesh_of
-overflow-add-steps c = let q = c.requires.worded.sized.quads_few in let p = c.requires.worded.sized.points_few in let b = c.loop-v.invariant.2 in omega arith
+overflow_add-steps c = let q = c.requires.worded.sized.quads_few in let p = c.requires.worded.sized.points_few in let b = c.loop-v.invariant.2 in omega arith
 
 pub loop-v-preserved : goal.loop-v-preserved
 unfolding mesh_of

@@ -13,10 +13,10 @@ bounds-self-off c = c.requires.in_marks
 
 pub unwrap-mark-requires : goal.unwrap-mark-requires
 unfolding mesh_of
-unwrap-mark-requires c = some_mark c.from-word.result _ c.from-word.ensures c.requires.a_mark
+unwrap-mark-requires c = some_mark c.from_word.result _ c.from_word.ensures c.requires.a_mark
 
-pub record-with-requires : goal.record-with-requires
+pub record_with-requires : goal.record_with-requires
 unfolding mesh_of
-record-with-requires c =
+record_with-requires c =
     let w = mark (mesh c.args.self.now) c.args.off.0 in
-    (c.requires, MatchOption-at_some (MarkWord w → ⊥) (λ a. word_of a ≡ w) c.unwrap-mark.result c.unwrap-mark.ensures c.from-word.ensures)
+    (c.requires, MatchOption-at_some (MarkWord w → ⊥) (λ a. word_of a ≡ w) c.unwrap-mark.result c.unwrap-mark.ensures c.from_word.ensures)

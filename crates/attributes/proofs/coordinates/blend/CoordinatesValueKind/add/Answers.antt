@@ -3,16 +3,16 @@ use Rattle.kinds.proofs.Parts.{total_append}
 use Rattle.attributes.specs.Limits.{fits, sum_fits, sum_next, sum_grows}
 use Rattle.attributes.proofs.coordinates.blend.CoordinatesValueKind.add.Goals as goal
 
-pub invariant-of-mix : goal.invariant-of-mix
-invariant-of-mix c =
+pub invariant_of-mix : goal.invariant_of-mix
+invariant_of-mix c =
     let m = c.args.mix.now in (
       omega arith,
       (
-        sum_grows c.more-mix.result m.x m.weight c.args.weight (record { sfits = c.more-mix.type-inv }) m.few m.xok c.more-mix.ensures.grows,
+        sum_grows c.more-mix.result m.x m.weight c.args.weight (record { sfits = c.more-mix.type_inv }) m.few m.xok c.more-mix.ensures.grows,
         (
-          sum_grows c.more-mix-2.result m.y m.weight c.args.weight (record { sfits = c.more-mix-2.type-inv }) m.few m.yok c.more-mix-2.ensures.grows,
+          sum_grows c.more-mix-2.result m.y m.weight c.args.weight (record { sfits = c.more-mix-2.type_inv }) m.few m.yok c.more-mix-2.ensures.grows,
           (
-            sum_grows c.more-mix-3.result m.z m.weight c.args.weight (record { sfits = c.more-mix-3.type-inv }) m.few m.zok c.more-mix-3.ensures.grows,
+            sum_grows c.more-mix-3.result m.z m.weight c.args.weight (record { sfits = c.more-mix-3.type_inv }) m.few m.zok c.more-mix-3.ensures.grows,
             tt,
           ),
         ),
@@ -27,9 +27,9 @@ returns c =
     record {
       adds = λ ps s few. record {
         weight_is = let e = s.weight_is in omega (arith, total_append ps ((v, w) ∷ []));
-        x_is = sum_next (λ p. p.x) ps v w c.more-mix.result m.x (record { sfits = c.more-mix.type-inv }) (sum_fits m.x m.weight m.few m.xok) (fits v.x v.xok) c.more-mix.ensures.is s.x_is;
-        y_is = sum_next (λ p. p.y) ps v w c.more-mix-2.result m.y (record { sfits = c.more-mix-2.type-inv }) (sum_fits m.y m.weight m.few m.yok) (fits v.y v.yok) c.more-mix-2.ensures.is s.y_is;
-        z_is = sum_next (λ p. p.z) ps v w c.more-mix-3.result m.z (record { sfits = c.more-mix-3.type-inv }) (sum_fits m.z m.weight m.few m.zok) (fits v.z v.zok) c.more-mix-3.ensures.is s.z_is;
+        x_is = sum_next (λ p. p.x) ps v w c.more-mix.result m.x (record { sfits = c.more-mix.type_inv }) (sum_fits m.x m.weight m.few m.xok) (fits v.x v.xok) c.more-mix.ensures.is s.x_is;
+        y_is = sum_next (λ p. p.y) ps v w c.more-mix-2.result m.y (record { sfits = c.more-mix-2.type_inv }) (sum_fits m.y m.weight m.few m.yok) (fits v.y v.yok) c.more-mix-2.ensures.is s.y_is;
+        z_is = sum_next (λ p. p.z) ps v w c.more-mix-3.result m.z (record { sfits = c.more-mix-3.type_inv }) (sum_fits m.z m.weight m.few m.zok) (fits v.z v.zok) c.more-mix-3.ensures.is s.z_is;
       };
       full = λ much. absurd (omega arith);
     }

@@ -9,8 +9,8 @@ use Rattle.attributes.proofs.texture.middle.TextureCornerKind.midway.Goals as go
 kept : (x y r : Float) → r ≡ halfway_of x y → T (lawful x) → T (lawful y) → T (lawful r)
 kept x y r e p q = subst (λ (z : Float). T (lawful z)) (sym e) (halfway_lawful x y p q)
 
-pub invariant-of-result : goal.invariant-of-result
-invariant-of-result c = (
+pub invariant_of-result : goal.invariant_of-result
+invariant_of-result c = (
   kept _ _ _ c.halfway.ensures c.args.self.now.uok c.args.other.now.uok,
   (kept _ _ _ c.halfway-2.ensures c.args.self.now.vok c.args.other.now.vok, tt),
 )
