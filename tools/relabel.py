@@ -25,6 +25,7 @@ MADE = [
     (r"\bin-Break\b", "in_err"),
     (r"\bIn-default\b", "In_default"),
     (r"\btype-inv\b", "type_inv"),
+    (r"\bfrom-residual\b", "from_residual"),
     (r"\bslice-known\b", "slice_known"),
     (r"\bstruct-known\b", "struct_known"),
     (r"\brow-known\b", "row_known"),

@@ -16,35 +16,35 @@ pub fn parts_fit() -> u8
 
 // The values of a refined level: at each slot the blend that belongs there, and no other list has that.
 pub fn values_are<K: ValueKind>() -> u8
-    ensures { ValuesAre blended }
+    ensures { ValuesAre K.blended }
 {
     0
 }
 
 // The corner values of a refined level: in each new quad what belongs there, and no other list has that.
 pub fn corners_are<C: CornerKind>() -> u8
-    ensures { CornersAre middle }
+    ensures { CornersAre C.middle }
 {
     0
 }
 
 // Values that are carried along stay in every range that held all the first ones.
 pub fn values_stay_in_range<K: ValueKind>() -> u8
-    ensures { ValuesStayInRange lies blended }
+    ensures { ValuesStayInRange K.lies K.blended }
 {
     0
 }
 
 // The pieces of an edge whose sides agree agree, and so do the edges made inside a quad and their pieces.
 pub fn seams_still_meet<C: CornerKind>() -> u8
-    ensures { SeamsStillMeet middle }
+    ensures { SeamsStillMeet C.middle }
 {
     0
 }
 
 // The same by any test of likeness that the middle respects, as one under which 0 and -0 are equal.
 pub fn seams_stay_alike<C: CornerKind>() -> u8
-    ensures { SeamsAlikeByTest middle }
+    ensures { SeamsAlikeByTest C.middle }
 {
     0
 }

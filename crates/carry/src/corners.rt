@@ -26,7 +26,7 @@ fn put_quad<C: CornerKind>(rows: &[C::Row], q: usize, out: &mut [C::Row])
     requires all { rows_refusal C.Rowed.verdict rows.now ≡ fine }
     requires within { 4 * q + 4 ≤ length rows.now }
     requires room { 16 * q + 16 ≤ length out.old }
-    ensures { (n : ℕ) → length rows.now ≡ 4 * n → Upto C.Rowed.row (corners middle (made C.Rowed.verdict rows.now)) out.old (16 * q) → Upto C.Rowed.row (corners middle (made C.Rowed.verdict rows.now)) out.new (16 * q + 16) }
+    ensures { (n : ℕ) → length rows.now ≡ 4 * n → Upto C.Rowed.row (corners C.middle (made C.Rowed.verdict rows.now)) out.old (16 * q) → Upto C.Rowed.row (corners C.middle (made C.Rowed.verdict rows.now)) out.new (16 * q + 16) }
 {
     let a = value_at::<C>(rows, 4 * q);
     let b = value_at::<C>(rows, 4 * q + 1);
@@ -51,7 +51,7 @@ pub(crate) fn carry<C: CornerKind>(
 ) -> Result<(), Fault>
     requires { quads ≤ 2 ^ 30 }
     ensures verdict { told result ≡ refusal C.Rowed.verdict quads (4 * quads) (16 * quads) rows.now (length out.old) }
-    ensures written { MatchResult result (λ _. out.new ≡ map C.Rowed.row (corners middle (made C.Rowed.verdict rows.now))) (λ _. out.new ≡ out.old) }
+    ensures written { MatchResult result (λ _. out.new ≡ map C.Rowed.row (corners C.middle (made C.Rowed.verdict rows.now))) (λ _. out.new ≡ out.old) }
 {
     judge::<C>(quads, 4 * quads, 16 * quads, rows, out.len())?;
     for q in 0..quads {

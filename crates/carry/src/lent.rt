@@ -21,7 +21,7 @@ pub fn corners<'a, C: CornerKind>(
     out: &mut [C::Row],
 ) -> Result<(), Fault>
     ensures verdict { told result ≡ corners_refusal C.Rowed.verdict (mesh tables.now) rows.now (length out.old) }
-    ensures written { MatchResult result (λ _. out.new ≡ map C.Rowed.row (corners_of middle (made C.Rowed.verdict rows.now))) (λ _. out.new ≡ out.old) }
+    ensures written { MatchResult result (λ _. out.new ≡ map C.Rowed.row (corners_of C.middle (made C.Rowed.verdict rows.now))) (λ _. out.new ≡ out.old) }
 {
     tables.judge()?;
     carry_corners::<C>(tables.quads(), rows, out)
@@ -34,7 +34,7 @@ pub fn values<'a, K: ValueKind>(
     out: &mut [K::Row],
 ) -> Result<(), Fault>
     ensures verdict { told result ≡ values_refusal K.Rowed.verdict (mesh tables.now) rows.now (length out.old) }
-    ensures written { MatchResult result (λ _. out.new ≡ map K.Rowed.row (values_of blended (mesh tables.now) (made K.Rowed.verdict rows.now))) (λ _. out.new ≡ out.old) }
+    ensures written { MatchResult result (λ _. out.new ≡ map K.Rowed.row (values_of K.blended (mesh tables.now) (made K.Rowed.verdict rows.now))) (λ _. out.new ≡ out.old) }
 {
     tables.judge()?;
     carry_values::<K>(tables, rows, out)

@@ -24,7 +24,7 @@ use tables::lent::Tables;
 pub(crate) fn add_at<K: ValueKind>(rows: &[K::Row], at: Point, weight: u32, mix: &mut K::Mix)
     requires all { rows_refusal K.Rowed.verdict rows.now ≡ fine }
     requires within { at.0 < length rows.now }
-    ensures { (ps : List (ℕ × ℕ)) → Mixed blended holds (made K.Rowed.verdict rows.now) mix.old ps → total ps + weight ≤ most_weight → Mixed blended holds (made K.Rowed.verdict rows.now) mix.new (ps ++ (at.0, weight) ∷ []) }
+    ensures { (ps : List (ℕ × ℕ)) → Mixed K.blended K.holds (made K.Rowed.verdict rows.now) mix.old ps → total ps + weight ≤ most_weight → Mixed K.blended K.holds (made K.Rowed.verdict rows.now) mix.new (ps ++ (at.0, weight) ∷ []) }
 {
     let value = value_at::<K>(rows, at.0 as usize);
     add_part(mix, &value, weight);
@@ -51,7 +51,7 @@ pub(crate) fn record_of<'a>(tables: &Tables<'a>, off: OffEdge) -> EdgeRecord
 
 // Adds a value that is at hand.
 fn add_known<K: ValueKind>(value: &K, weight: u32, mix: &mut K::Mix)
-    ensures { (xs : List K) (p : ℕ) (ps : List (ℕ × ℕ)) → value.now ≡ slice_index_or xs p (blended []) → Mixed blended holds xs mix.old ps → total ps + weight ≤ most_weight → Mixed blended holds xs mix.new (ps ++ (p, weight) ∷ []) }
+    ensures { (xs : List K) (p : ℕ) (ps : List (ℕ × ℕ)) → value.now ≡ slice_index_or xs p (K.blended []) → Mixed K.blended K.holds xs mix.old ps → total ps + weight ≤ most_weight → Mixed K.blended K.holds xs mix.new (ps ++ (p, weight) ∷ []) }
 {
     add_part(mix, value, weight);
 }
@@ -64,14 +64,14 @@ pub(crate) fn corner_value<'a, K: ValueKind>(
 ) -> K
     requires ready { Ready K.Rowed.verdict (mesh tables.now) rows.now }
     requires within { corner.0 < 4 * (mesh tables.now).quads }
-    ensures { AtCorner blended (mesh tables.now) (made K.Rowed.verdict rows.now) corner.0 result }
+    ensures { AtCorner K.blended (mesh tables.now) (made K.Rowed.verdict rows.now) corner.0 result }
 {
     value_at::<K>(rows, point_at(tables, corner).0 as usize)
 }
 
 // The blend of the face point of a quad with these values at its corners.
 pub(crate) fn face<K: ValueKind>(first: &K, second: &K, third: &K, fourth: &K) -> K
-    ensures { (m : Mesh) (xs : List K) (q : ℕ) → QuadHas blended m xs q first.now second.now third.now fourth.now → result ≡ blend blended xs (face_parts m q) }
+    ensures { (m : Mesh) (xs : List K) (q : ℕ) → QuadHas K.blended m xs q first.now second.now third.now fourth.now → result ≡ blend K.blended xs (face_parts m q) }
 {
     let mut mix = K::start();
     add_known(first, 1, &mut mix);
@@ -108,8 +108,8 @@ pub(crate) fn edge<'a, K: ValueKind>(
 ) -> K
     requires ready { Ready K.Rowed.verdict (mesh tables.now) rows.now }
     requires recorded { RecordOf (mesh tables.now) off.0 along.now }
-    requires sides { EdgeHas blended (mesh tables.now) (made K.Rowed.verdict rows.now) off.0 begin.now end.now low.now high.now }
-    ensures { result ≡ blend blended (made K.Rowed.verdict rows.now) (edge_parts (mesh tables.now) off.0) }
+    requires sides { EdgeHas K.blended (mesh tables.now) (made K.Rowed.verdict rows.now) off.0 begin.now end.now low.now high.now }
+    ensures { result ≡ blend K.blended (made K.Rowed.verdict rows.now) (edge_parts (mesh tables.now) off.0) }
 {
     let a = capped(along.mark);
     let near = 6 * (256 - a) + 8 * a;

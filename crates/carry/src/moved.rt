@@ -33,7 +33,7 @@ fn add_smooth<'a, K: ValueKind>(
     requires within { point.0 < (mesh tables.now).points }
     requires steps { valence ≡ valence_at (mesh tables.now) point.0 }
     requires few { times ≤ 16384 }
-    ensures { (ps : List (ℕ × ℕ)) → Mixed blended holds (made K.Rowed.verdict rows.now) mix.old ps → total ps + times * (4 * (valence * valence)) ≤ most_weight → Mixed blended holds (made K.Rowed.verdict rows.now) mix.new (ps ++ times_parts times (smooth_parts (mesh tables.now) point.0)) }
+    ensures { (ps : List (ℕ × ℕ)) → Mixed K.blended K.holds (made K.Rowed.verdict rows.now) mix.old ps → total ps + times * (4 * (valence * valence)) ≤ most_weight → Mixed K.blended K.holds (made K.Rowed.verdict rows.now) mix.new (ps ++ times_parts times (smooth_parts (mesh tables.now) point.0)) }
 {
     add_at::<K>(rows, point, times * (valence * (4 * valence - 7)), mix);
     let mut corner = Corner(tables.starts[point.0 as usize]);
@@ -66,7 +66,7 @@ fn add_marked<'a, K: ValueKind>(
     requires ready { Ready K.Rowed.verdict (mesh tables.now) rows.now }
     requires within { point.0 < (mesh tables.now).points }
     requires steps { valence ≡ valence_at (mesh tables.now) point.0 }
-    ensures { (ps : List (ℕ × ℕ)) → Mixed blended holds (made K.Rowed.verdict rows.now) mix.old ps → total ps + length (marked_at (mesh tables.now) point.0) * weight ≤ most_weight → Mixed blended holds (made K.Rowed.verdict rows.now) mix.new (ps ++ map (λ c. (point_of (mesh tables.now) (other_end_of c), weight)) (marked_at (mesh tables.now) point.0)) }
+    ensures { (ps : List (ℕ × ℕ)) → Mixed K.blended K.holds (made K.Rowed.verdict rows.now) mix.old ps → total ps + length (marked_at (mesh tables.now) point.0) * weight ≤ most_weight → Mixed K.blended K.holds (made K.Rowed.verdict rows.now) mix.new (ps ++ map (λ c. (point_of (mesh tables.now) (other_end_of c), weight)) (marked_at (mesh tables.now) point.0)) }
 {
     let mut corner = Corner(tables.starts[point.0 as usize]);
     for _met in 0..valence {
@@ -83,7 +83,7 @@ fn smooth<'a, K: ValueKind>(tables: &Tables<'a>, rows: &[K::Row], point: Point, 
     requires ready { Ready K.Rowed.verdict (mesh tables.now) rows.now }
     requires within { point.0 < (mesh tables.now).points }
     requires steps { seen.now.valence ≡ valence_at (mesh tables.now) point.0 }
-    ensures { result ≡ blend blended (made K.Rowed.verdict rows.now) (smooth_parts (mesh tables.now) point.0) }
+    ensures { result ≡ blend K.blended (made K.Rowed.verdict rows.now) (smooth_parts (mesh tables.now) point.0) }
 {
     let mut mix = K::start();
     add_smooth::<K>(tables, rows, point, seen.valence, 1, &mut mix);
@@ -97,7 +97,7 @@ fn crease<'a, K: ValueKind>(tables: &Tables<'a>, rows: &[K::Row], point: Point, 
     requires steps { seen.now.valence ≡ valence_at (mesh tables.now) point.0 }
     requires sees { Seen (mesh tables.now) (marked_at (mesh tables.now) point.0) seen.now }
     requires two { seen.now.marked ≡ 2 }
-    ensures { result ≡ blend blended (made K.Rowed.verdict rows.now) (creased (mesh tables.now) point.0) }
+    ensures { result ≡ blend K.blended (made K.Rowed.verdict rows.now) (creased (mesh tables.now) point.0) }
 {
     let n = seen.valence;
     let s = seen.sharpness();
@@ -115,7 +115,7 @@ fn peak<'a, K: ValueKind>(tables: &Tables<'a>, rows: &[K::Row], point: Point, se
     requires within { point.0 < (mesh tables.now).points }
     requires steps { seen.now.valence ≡ valence_at (mesh tables.now) point.0 }
     requires sees { Seen (mesh tables.now) (marked_at (mesh tables.now) point.0) seen.now }
-    ensures { result ≡ blend blended (made K.Rowed.verdict rows.now) (cornered (mesh tables.now) point.0) }
+    ensures { result ≡ blend K.blended (made K.Rowed.verdict rows.now) (cornered (mesh tables.now) point.0) }
 {
     let n = seen.valence;
     let s = seen.sharpness();
@@ -129,7 +129,7 @@ fn peak<'a, K: ValueKind>(tables: &Tables<'a>, rows: &[K::Row], point: Point, se
 pub(crate) fn moved<'a, K: ValueKind>(tables: &Tables<'a>, rows: &[K::Row], point: Point) -> K
     requires ready { Ready K.Rowed.verdict (mesh tables.now) rows.now }
     requires within { point.0 < (mesh tables.now).points }
-    ensures { result ≡ blend blended (made K.Rowed.verdict rows.now) (moved_parts (mesh tables.now) point.0) }
+    ensures { result ≡ blend K.blended (made K.Rowed.verdict rows.now) (moved_parts (mesh tables.now) point.0) }
 {
     let seen = around(tables, point);
     if seen.marked < 2 {

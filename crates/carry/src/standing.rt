@@ -25,8 +25,8 @@ pub fn values<'a, K: ValueKind>(
     out: &mut [K::Row],
 ) -> Result<(), Fault>
     ensures verdict { told result ≡ values_asked K.Rowed.verdict (state bench.now).standing rows.now (length out.old) }
-    ensures written { MatchResult result (λ _. Of (state bench.now).standing (λ m. out.new ≡ map K.Rowed.row (values_of blended m (made K.Rowed.verdict rows.now)))) (λ _. out.new ≡ out.old) }
-    ensures range { OnOk result (InEveryRange lies K.Rowed.verdict rows.now out.new) }
+    ensures written { MatchResult result (λ _. Of (state bench.now).standing (λ m. out.new ≡ map K.Rowed.row (values_of K.blended m (made K.Rowed.verdict rows.now)))) (λ _. out.new ≡ out.old) }
+    ensures range { OnOk result (InEveryRange K.lies K.Rowed.verdict rows.now out.new) }
 {
     let standing = bench.tables(Level::Standing)?;
     carry_values::<K>(&standing, rows, out)
@@ -40,7 +40,7 @@ pub fn corners<'a, C: CornerKind>(
     out: &mut [C::Row],
 ) -> Result<(), Fault>
     ensures verdict { told result ≡ corners_asked C.Rowed.verdict (state bench.now).standing rows.now (length out.old) }
-    ensures written { MatchResult result (λ _. Of (state bench.now).standing (λ m. out.new ≡ map C.Rowed.row (corners_of middle (made C.Rowed.verdict rows.now)))) (λ _. out.new ≡ out.old) }
+    ensures written { MatchResult result (λ _. Of (state bench.now).standing (λ m. out.new ≡ map C.Rowed.row (corners_of C.middle (made C.Rowed.verdict rows.now)))) (λ _. out.new ≡ out.old) }
     ensures seams { OnOk result (Of (state bench.now).standing (λ m. SeamsMet C.Rowed.verdict m rows.now out.new)) }
 {
     let tables = bench.tables(Level::Standing)?;

@@ -32,7 +32,7 @@ fn put<K: Rowed>(out: &mut [K::Row], slot: usize, value: &K)
 fn put_moved<'a, K: ValueKind>(tables: &Tables<'a>, rows: &[K::Row], out: &mut [K::Row])
     requires ready { Ready K.Rowed.verdict (mesh tables.now) rows.now }
     requires room { length out.old ≡ (mesh tables.now).points + 3 * (mesh tables.now).quads }
-    ensures { (v : ℕ) → v < (mesh tables.now).points → RightAt K.Rowed.row blended (mesh tables.now) (made K.Rowed.verdict rows.now) out.new (old_slot (mesh tables.now) v) }
+    ensures { (v : ℕ) → v < (mesh tables.now).points → RightAt K.Rowed.row K.blended (mesh tables.now) (made K.Rowed.verdict rows.now) out.new (old_slot (mesh tables.now) v) }
 {
     let quads = tables.quads() as u32;
     for v in 0..tables.starts.len() {
@@ -56,9 +56,9 @@ fn put_edge<'a, K: ValueKind>(
     requires ready { Ready K.Rowed.verdict (mesh tables.now) rows.now }
     requires room { length out.old ≡ (mesh tables.now).points + 3 * (mesh tables.now).quads }
     requires within { off.0 < 2 * (mesh tables.now).quads }
-    requires sides { EdgeHas blended (mesh tables.now) (made K.Rowed.verdict rows.now) off.0 begin.now end.now low.now high.now }
-    ensures kept { (s : ℕ) → RightAt K.Rowed.row blended (mesh tables.now) (made K.Rowed.verdict rows.now) out.old s → RightAt K.Rowed.row blended (mesh tables.now) (made K.Rowed.verdict rows.now) out.new s }
-    ensures right { RightAt K.Rowed.row blended (mesh tables.now) (made K.Rowed.verdict rows.now) out.new (edge_slot (friend_of (mesh tables.now) off.0)) }
+    requires sides { EdgeHas K.blended (mesh tables.now) (made K.Rowed.verdict rows.now) off.0 begin.now end.now low.now high.now }
+    ensures kept { (s : ℕ) → RightAt K.Rowed.row K.blended (mesh tables.now) (made K.Rowed.verdict rows.now) out.old s → RightAt K.Rowed.row K.blended (mesh tables.now) (made K.Rowed.verdict rows.now) out.new s }
+    ensures right { RightAt K.Rowed.row K.blended (mesh tables.now) (made K.Rowed.verdict rows.now) out.new (edge_slot (friend_of (mesh tables.now) off.0)) }
 {
     let record = record_of(tables, off);
     let value = edge::<K>(tables, rows, off, &record, begin, end, low, high);
@@ -70,10 +70,10 @@ fn put_quad<'a, K: ValueKind>(tables: &Tables<'a>, rows: &[K::Row], quad: Quad, 
     requires ready { Ready K.Rowed.verdict (mesh tables.now) rows.now }
     requires room { length out.old ≡ (mesh tables.now).points + 3 * (mesh tables.now).quads }
     requires within { quad.0 < (mesh tables.now).quads }
-    ensures kept { (s : ℕ) → RightAt K.Rowed.row blended (mesh tables.now) (made K.Rowed.verdict rows.now) out.old s → RightAt K.Rowed.row blended (mesh tables.now) (made K.Rowed.verdict rows.now) out.new s }
-    ensures face { RightAt K.Rowed.row blended (mesh tables.now) (made K.Rowed.verdict rows.now) out.new (face_slot quad.0) }
-    ensures even { RightAt K.Rowed.row blended (mesh tables.now) (made K.Rowed.verdict rows.now) out.new (edge_slot (friend_of (mesh tables.now) (2 * quad.0))) }
-    ensures odd { RightAt K.Rowed.row blended (mesh tables.now) (made K.Rowed.verdict rows.now) out.new (edge_slot (friend_of (mesh tables.now) (2 * quad.0 + 1))) }
+    ensures kept { (s : ℕ) → RightAt K.Rowed.row K.blended (mesh tables.now) (made K.Rowed.verdict rows.now) out.old s → RightAt K.Rowed.row K.blended (mesh tables.now) (made K.Rowed.verdict rows.now) out.new s }
+    ensures face { RightAt K.Rowed.row K.blended (mesh tables.now) (made K.Rowed.verdict rows.now) out.new (face_slot quad.0) }
+    ensures even { RightAt K.Rowed.row K.blended (mesh tables.now) (made K.Rowed.verdict rows.now) out.new (edge_slot (friend_of (mesh tables.now) (2 * quad.0))) }
+    ensures odd { RightAt K.Rowed.row K.blended (mesh tables.now) (made K.Rowed.verdict rows.now) out.new (edge_slot (friend_of (mesh tables.now) (2 * quad.0 + 1))) }
 {
     let c = 4 * quad.0;
     let first = corner_value::<K>(tables, rows, Corner(c));
@@ -108,9 +108,9 @@ fn put_quad<'a, K: ValueKind>(tables: &Tables<'a>, rows: &[K::Row], quad: Quad, 
 fn put_quads<'a, K: ValueKind>(tables: &Tables<'a>, rows: &[K::Row], out: &mut [K::Row])
     requires ready { Ready K.Rowed.verdict (mesh tables.now) rows.now }
     requires room { length out.old ≡ (mesh tables.now).points + 3 * (mesh tables.now).quads }
-    ensures kept { (s : ℕ) → RightAt K.Rowed.row blended (mesh tables.now) (made K.Rowed.verdict rows.now) out.old s → RightAt K.Rowed.row blended (mesh tables.now) (made K.Rowed.verdict rows.now) out.new s }
-    ensures faces { (q : ℕ) → q < (mesh tables.now).quads → RightAt K.Rowed.row blended (mesh tables.now) (made K.Rowed.verdict rows.now) out.new (face_slot q) }
-    ensures edges { (o : ℕ) → o < 2 * (mesh tables.now).quads → RightAt K.Rowed.row blended (mesh tables.now) (made K.Rowed.verdict rows.now) out.new (edge_slot (friend_of (mesh tables.now) o)) }
+    ensures kept { (s : ℕ) → RightAt K.Rowed.row K.blended (mesh tables.now) (made K.Rowed.verdict rows.now) out.old s → RightAt K.Rowed.row K.blended (mesh tables.now) (made K.Rowed.verdict rows.now) out.new s }
+    ensures faces { (q : ℕ) → q < (mesh tables.now).quads → RightAt K.Rowed.row K.blended (mesh tables.now) (made K.Rowed.verdict rows.now) out.new (face_slot q) }
+    ensures edges { (o : ℕ) → o < 2 * (mesh tables.now).quads → RightAt K.Rowed.row K.blended (mesh tables.now) (made K.Rowed.verdict rows.now) out.new (edge_slot (friend_of (mesh tables.now) o)) }
 {
     for q in 0..tables.quads() {
         put_quad::<K>(tables, rows, Quad(q as u32), out);
@@ -125,7 +125,7 @@ pub(crate) fn carry<'a, K: ValueKind>(
 ) -> Result<(), Fault>
     requires { Lawful (mesh tables.now) }
     ensures verdict { told result ≡ refusal K.Rowed.verdict (mesh tables.now).quads (mesh tables.now).points ((mesh tables.now).points + 3 * (mesh tables.now).quads) rows.now (length out.old) }
-    ensures written { MatchResult result (λ _. out.new ≡ map K.Rowed.row (values_of blended (mesh tables.now) (made K.Rowed.verdict rows.now))) (λ _. out.new ≡ out.old) }
+    ensures written { MatchResult result (λ _. out.new ≡ map K.Rowed.row (values_of K.blended (mesh tables.now) (made K.Rowed.verdict rows.now))) (λ _. out.new ≡ out.old) }
 {
     let quads = tables.quads();
     let points = tables.starts.len();

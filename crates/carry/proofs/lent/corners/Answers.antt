@@ -10,7 +10,7 @@ use Rattle.carry.proofs.lent.corners.Goals as goal
 pub returns-in_err-judge : goal.returns-in_err-judge
 unfolding corners_refusal
 returns-in_err-judge g c =
-    let p = err_from_is_err_and c.from-residual.result c.from-residual.ensures.1 in
+    let p = err_from_is_err_and c.from_residual.result c.from_residual.ensures.1 in
     rw (p.1, p.2) (record { verdict = first_fault (judge (mesh c.args.tables.now)) _ _ _ c.in_err-judge.ensures; written = refl })
 
 pub carry-requires : goal.carry-requires

@@ -11,7 +11,7 @@ use Rattle.carry.proofs.standing.corners.Goals as goal
 
 pub returns-in_err-tables : goal.returns-in_err-tables
 returns-in_err-tables g c =
-    let p = err_from_is_err_and c.from-residual.result c.from-residual.ensures.1 in
+    let p = err_from_is_err_and c.from_residual.result c.from_residual.ensures.1 in
     rw (p.1, p.2) (record { verdict = asked_none (state c.args.bench.now).standing _ _ _ c.in_err-tables.ensures; written = refl; seams = tt })
 
 pub carry-requires : goal.carry-requires

@@ -10,7 +10,7 @@ use Rattle.carry.proofs.standing.values.Goals as goal
 
 pub returns-in_err-standing : goal.returns-in_err-standing
 returns-in_err-standing g c =
-    let p = err_from_is_err_and c.from-residual.result c.from-residual.ensures.1 in
+    let p = err_from_is_err_and c.from_residual.result c.from_residual.ensures.1 in
     rw (p.1, p.2) (record { verdict = asked_none (state c.args.bench.now).standing _ _ _ c.in_err-standing.ensures; written = refl; range = tt })
 
 pub carry-requires : goal.carry-requires

@@ -18,7 +18,7 @@ judge-requires g c =
 pub returns-in_err-judge : goal.returns-in_err-judge
 unfolding mesh_of
 returns-in_err-judge g c =
-    let p = err_from_is_err_and c.from-residual.result c.from-residual.ensures.1 in
+    let p = err_from_is_err_and c.from_residual.result c.from_residual.ensures.1 in
     let n = length c.args.tables.now.starts.now in
     rw (p.1, p.2) (record {
       verdict = c.in_err-judge.ensures ∙ ap (λ q. refusal g.K.Rowed.verdict q n (n + 3 * q) c.args.rows.now (length c.args.out.now)) c.quads-quads.ensures;

@@ -6,7 +6,7 @@ use Rattle.lines.specs.Reading.{line}
 use Rattle.lines.proofs.Finds.{line_none, line_finds}
 use Rattle.lines.proofs.LineWords.{line_words, words_line, words_end}
 use Rattle.lines.proofs.frame.read_line.Goals as goal
-use Rattle.lines.proofs.frame.read_line.Goals.{then-first-a-via-then-first-a, then-first-a-via-else-first-a+then-second-b, in_default-end-via-then-end-lt1, in_default-end-via-else-end-lt1+in_default·}
+use Rattle.lines.proofs.frame.read_line.Goals.{then-first-a-via-then-first-a, then-first-a-via-else-first-a+then-second-b, in_default-end-via-then-end-lt1, in_default-end-via-else-end-lt1+in_default-1}
 
 -- the code's `words` is `&s[2..]`
 there : (s ns t : List ℕ) → Words (drop 2 s) ns t → Words (take (length s - 2) (drop 2 s)) ns t
@@ -37,7 +37,7 @@ returns-in_default-end c = line_none c.args.a c.args.b (length c.args.out.now) c
     let f : c.in-Some.end.now ≡ 10 ∷ t = (words_end _ c.read_words.new.out c.in-Some.end.now ns (10 ∷ t) c.in-Some.ensures w k).1 in
     let len = ap length f in
     let one : get_or c.in-Some.end.now 0 0 ≡ 10 = ap (λ (x : List ℕ). get_or x 0 0) f in
-    elim c.in_default-end.branch [ in_default-end-via-then-end-lt1 v ↦ omega (arith, ltb-true) | in_default-end-via-else-end-lt1+in_default· v ↦ omega arith ])
+    elim c.in_default-end.branch [ in_default-end-via-then-end-lt1 v ↦ omega (arith, ltb-true) | in_default-end-via-else-end-lt1+in_default-1 v ↦ omega arith ])
 
 pub returns : goal.returns
 returns c =

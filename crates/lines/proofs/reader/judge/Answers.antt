@@ -8,13 +8,13 @@ use Rattle.lines.proofs.reader.judge.Goals as goal
 
 pub returns-in_err-starts : goal.returns-in_err-starts
 returns-in_err-starts c =
-    let p = err_from_is_err_and c.from-residual.result c.from-residual.ensures.1 in
+    let p = err_from_is_err_and c.from_residual.result c.from_residual.ensures.1 in
     let h = c.in_err-starts.ensures in
     rw (p.1, p.2) (quad_missing c.args.counts.quads c.args.counts.points c.args.body.now h.0 h.2 ∙ ap refused (sym h.1))
 
 pub returns-in_err-rest : goal.returns-in_err-rest
 returns-in_err-rest c =
-    let p = err_from_is_err_and c.from-residual-in_err-rest.result c.from-residual-in_err-rest.ensures.1 in
+    let p = err_from_is_err_and c.from_residual-in_err-rest.result c.from_residual-in_err-rest.ensures.1 in
     let q = c.in_ok-starts.ensures in
     let h = c.in_err-rest.ensures in
     rw (p.1, p.2) (start_missing c.args.counts.quads c.args.counts.points c.args.body.now q.0 c.in_ok-starts.starts.now q.1 h.0 h.2 ∙ ap refused (sym h.1))

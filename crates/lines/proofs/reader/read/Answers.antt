@@ -22,7 +22,7 @@ returns-then-not-fit c =
 
 pub returns-in_err-judge : goal.returns-in_err-judge
 returns-in_err-judge c =
-    let p = err_from_is_err_and c.from-residual.result c.from-residual.ensures.1 in
+    let p = err_from_is_err_and c.from_residual.result c.from_residual.ensures.1 in
     let r = room c.args.corners.now c.args.friends.now c.args.marks.now c.args.starts.now in
     let w = with_room c.args.text.now r c.in-Some.counts.quads c.in-Some.counts.points c.in-Some.body.now c.in-Some.ensures.found (sym c.fit.ensures ∙ c.if-not-fit.false) in
     let e = w ∙ c.in_err-judge.ensures in

@@ -28,7 +28,7 @@ load_front-requires c =
 
 pub returns-in_err-load_front : goal.returns-in_err-load_front
 returns-in_err-load_front c =
-    let p = err_from_is_err_and c.from-residual.result c.from-residual.ensures.1 in
+    let p = err_from_is_err_and c.from_residual.result c.from_residual.ensures.1 in
     let r = room c.args.corners.now c.args.friends.now c.args.marks.now c.args.starts.now in
     let h = c.in-Ok.ensures in
     let w = was_read (reading c.args.text.now r) c.in-Ok.counts h.answer in

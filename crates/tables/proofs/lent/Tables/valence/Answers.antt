@@ -7,26 +7,26 @@ use Rattle.tables.proofs.lent.Tables.valence.Goals as goal
 pub loop-steps-init : goal.loop-steps-init
 loop-steps-init c = (c.requires.1, λ v f. walk_first (mesh c.args.self.now) v _ f, λ v f i l. absurd (omega arith))
 
-pub next_corner-requires : goal.next_corner-requires
-next_corner-requires c = (c.requires.0, c.loop-steps.invariant.0)
+pub next-corner-requires : goal.next-corner-requires
+next-corner-requires c = (c.requires.0, c.loop-steps.invariant.0)
 
 pub loop-steps-preserved : goal.loop-steps-preserved
 loop-steps-preserved c =
     let m = mesh c.args.self.now in (
-      c.next_corner.ensures.below,
-      λ v f. walk_more m v _ _ _ (c.loop-steps.invariant.1 v f) c.next_corner.ensures.is,
+      c.next-corner.ensures.below,
+      λ v f. walk_more m v _ _ _ (c.loop-steps.invariant.1 v f) c.next-corner.ensures.is,
       λ v f.
           below_more (λ i. walk m v (suc i) ≡ start m v → ⊥) _ (c.loop-steps.invariant.2 v f)
           (λ q.
           let z : c.loop-steps.steps + 1 ≡ suc c.loop-steps.steps = omega arith in
-          c.if-corner-from.false (walk_more m v _ _ _ (c.loop-steps.invariant.1 v f) c.next_corner.ensures.is ∙ ap (walk m v) z ∙ q ∙ f)),
+          c.if-corner-from.false (walk_more m v _ _ _ (c.loop-steps.invariant.1 v f) c.next-corner.ensures.is ∙ ap (walk m v) z ∙ q ∙ f)),
     )
 
 pub returns-then-corner-from : goal.returns-then-corner-from
 returns-then-corner-from c = λ v f.
     let m = mesh c.args.self.now in
     valence_back m v c.loop-steps.steps c.loop-steps-test.true
-    (sym (walk_more m v _ _ _ (c.loop-steps.invariant.1 v f) c.next_corner.ensures.is) ∙ c.if-corner-from.true ∙ sym f)
+    (sym (walk_more m v _ _ _ (c.loop-steps.invariant.1 v f) c.next-corner.ensures.is) ∙ c.if-corner-from.true ∙ sym f)
     (c.loop-steps.invariant.2 v f)
 
 pub returns : goal.returns

@@ -5,19 +5,13 @@ use Rattle.attributes.proofs.coordinates.blend.CoordinatesValueKind.add.Goals as
 
 pub invariant_of-mix : goal.invariant_of-mix
 invariant_of-mix c =
-    let m = c.args.mix.now in (
-      omega arith,
-      (
-        sum_grows c.more-mix.result m.x m.weight c.args.weight (record { sfits = c.more-mix.type_inv }) m.few m.xok c.more-mix.ensures.grows,
-        (
-          sum_grows c.more-mix-2.result m.y m.weight c.args.weight (record { sfits = c.more-mix-2.type_inv }) m.few m.yok c.more-mix-2.ensures.grows,
-          (
-            sum_grows c.more-mix-3.result m.z m.weight c.args.weight (record { sfits = c.more-mix-3.type_inv }) m.few m.zok c.more-mix-3.ensures.grows,
-            tt,
-          ),
-        ),
-      ),
-    )
+    let m = c.args.mix.now in
+    record {
+      few = omega arith;
+      xok = sum_grows c.more-mix.result m.x m.weight c.args.weight (record { sfits = c.more-mix.type_inv }) m.few m.xok c.more-mix.ensures.grows;
+      yok = sum_grows c.more-mix-2.result m.y m.weight c.args.weight (record { sfits = c.more-mix-2.type_inv }) m.few m.yok c.more-mix-2.ensures.grows;
+      zok = sum_grows c.more-mix-3.result m.z m.weight c.args.weight (record { sfits = c.more-mix-3.type_inv }) m.few m.zok c.more-mix-3.ensures.grows;
+    }
 
 pub returns : goal.returns
 returns c =

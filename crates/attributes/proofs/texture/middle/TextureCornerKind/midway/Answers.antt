@@ -10,10 +10,10 @@ kept : (x y r : Float) → r ≡ halfway_of x y → T (lawful x) → T (lawful y
 kept x y r e p q = subst (λ (z : Float). T (lawful z)) (sym e) (halfway_lawful x y p q)
 
 pub invariant_of-result : goal.invariant_of-result
-invariant_of-result c = (
-  kept _ _ _ c.halfway.ensures c.args.self.now.uok c.args.other.now.uok,
-  (kept _ _ _ c.halfway-2.ensures c.args.self.now.vok c.args.other.now.vok, tt),
-)
+invariant_of-result c = record {
+  uok = kept _ _ _ c.halfway.ensures c.args.self.now.uok c.args.other.now.uok;
+  vok = kept _ _ _ c.halfway-2.ensures c.args.self.now.vok c.args.other.now.vok;
+}
 
 pub returns : goal.returns
 returns c = same_pair _ _ c.halfway.ensures c.halfway-2.ensures
