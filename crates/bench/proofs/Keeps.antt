@@ -24,10 +24,16 @@ use Rattle.bench.specs.declared.stage.Stage.TheVariants.{Empty, Standing, Workin
 
 -- what a call owes at its end, all ghost fields at once
 abbrev pub Kept : Stage → ℕ → ℕ → ℕ → ℕ → List ℕ → Type 0
-Kept s mark F V n ws = Few s F V × (Room s F V ws × (∥ Stands s F V ws ∥₁ × (∥ Works s F V ws ∥₁ × (Count s mark F V n ws × Unit {0}))))
+Kept s mark F V n ws = record {
+  few : Few s F V;
+  room : Room s F V ws;
+  lawful : ∥ Stands s F V ws ∥₁;
+  written : ∥ Works s F V ws ∥₁;
+  count : Count s mark F V n ws;
+}
 
 pub made_keeps : (mark : ℕ) (ws : List ℕ) → Kept Empty mark 0 0 0 ws
-made_keeps mark ws = ((omega arith, omega arith), (omega arith, (∣ tt ∣₁, (∣ tt ∣₁, (refl, tt)))))
+made_keeps mark ws = record { few = (omega arith, omega arith); room = omega arith; lawful = ∣ tt ∣₁; written = ∣ tt ∣₁; count = refl }
 
 -- the words of a lawful level are in range
 pub in_range : (m : Mesh) → ∥ Lawful m ∥₁ → InRange m
@@ -78,19 +84,13 @@ module _ (mark F V : ℕ) (ws : List ℕ) where
       let l = b.length_kept in
       let law : ∥ Lawful m ∥₁ = subst (λ x. ∥ Stands x F V ws ∥₁) e h in
       let p = few.1 in
-      subst (λ x. Kept Working mark F V (F + V) x) (sym is) (
-        (omega arith, omega arith),
-        (
-          omega arith,
-          (
-            ∥∥₁_map law (λ x. subst Lawful (sym b.standing_kept) x),
-            (
-              ∣ subst (λ x. Written x (work_in (laid ws (8 * F + V) (replicate (36 * F + 2 * V) 0)) F V)) (sym b.standing_kept) w ∣₁,
-              (sym (ap (count_by (λ x. eqb x 0)) b.none_ran ∙ count_zeros (F + V)), tt),
-            ),
-          ),
-        ),
-      )
+      subst (λ x. Kept Working mark F V (F + V) x) (sym is) (record {
+        few = (omega arith, omega arith);
+        room = omega arith;
+        lawful = ∥∥₁_map law (λ x. subst Lawful (sym b.standing_kept) x);
+        written = ∣ subst (λ x. Written x (work_in (laid ws (8 * F + V) (replicate (36 * F + 2 * V) 0)) F V)) (sym b.standing_kept) w ∣₁;
+        count = sym (ap (count_by (λ x. eqb x 0)) b.none_ran ∙ count_zeros (F + V));
+      })
 
   pub withdraw_keeps : (s : Stage) → s ≡ Working → Few s F V → Room s F V ws → ∥ Stands s F V ws ∥₁ → Kept Standing mark F V 0 ws
   withdraw_keeps s e few room h =
@@ -98,7 +98,7 @@ module _ (mark F V : ℕ) (ws : List ℕ) where
       let r = subst (λ x. Room x F V ws) e room in
       let a = f.0 in
       let p = f.1 in
-      ((omega arith, p), (omega arith, (subst (λ x. ∥ Stands x F V ws ∥₁) e h, (∣ tt ∣₁, (refl, tt)))))
+      record { few = (omega arith, p); room = omega arith; lawful = subst (λ x. ∥ Stands x F V ws ∥₁) e h; written = ∣ tt ∣₁; count = refl }
 
   pub task_keeps : (s : Stage) (t : Task) (n : ℕ) (vs : List ℕ) → s ≡ Working → Few s F V → Room s F V ws → ∥ Stands s F V ws ∥₁ → ∥ Works s F V ws ∥₁ →
       TaskOf (standing_in ws F V) t → n ≡ count_by (λ w. eqb w 0) (set (block ws (43 * F + 2 * V) (F + V)) (number (standing_in ws F V) t) 1) →
@@ -120,19 +120,13 @@ module _ (mark F V : ℕ) (ws : List ℕ) where
         ran_are = b.ran_written ∙ ap (λ x. set x (number m t) 1) w.ran_are ∙ ran_push m w.tasks_run t k;
       } in
       subst (λ x. Kept x mark F V n vs) (sym e)
-      (subst (λ x. Kept Working mark F V n x) (sym is) (
-        subst (λ x. Few x F V) e few,
-        (
-          omega arith,
-          (
-            ∥∥₁_map law (λ x. subst Lawful (sym b.standing_kept) x),
-            (
-              ∥∥₁_map work (λ w. subst (λ x. Written x (work_in us F V)) (sym b.standing_kept) (more w)),
-              (c ∙ sym (ap (count_by (λ x. eqb x 0)) b.ran_written), tt),
-            ),
-          ),
-        ),
-      ))
+      (subst (λ x. Kept Working mark F V n x) (sym is) (record {
+        few = subst (λ x. Few x F V) e few;
+        room = omega arith;
+        lawful = ∥∥₁_map law (λ x. subst Lawful (sym b.standing_kept) x);
+        written = ∥∥₁_map work (λ w. subst (λ x. Written x (work_in us F V)) (sym b.standing_kept) (more w));
+        count = c ∙ sym (ap (count_by (λ x. eqb x 0)) b.ran_written);
+      }))
 
   pub finish_keeps : (s : Stage) (vs : List ℕ) → s ≡ Working → Few s F V → Room s F V ws → ∥ Stands s F V ws ∥₁ → ∥ Works s F V ws ∥₁ →
       F + V ≤ least (λ i. eqb (get_or (block ws (43 * F + 2 * V) (F + V)) i 0) 0) (F + V) →
@@ -151,7 +145,7 @@ module _ (mark F V : ℕ) (ws : List ℕ) where
       let every = ran_all m x.tasks_run x.are_tasks (subst (λ (y : List ℕ). F + V ≤ least (λ i. eqb (get_or y i 0) 0) (F + V)) x.ran_are all) in
       subst Lawful (sym (b.standing_is ∙ x.tables_are ∙ any_order m w x.tasks_run x.are_tasks every)) (refinement_keeps_lawful m w (omega arith)) in
       subst (λ x. Kept Standing mark (4 * F) (V + 3 * F) 0 x) (sym is)
-      ((omega arith, omega arith), (omega arith, (∥∥₁_map₂ law work raised, (∣ tt ∣₁, (refl, tt)))))
+      (record { few = (omega arith, omega arith); room = omega arith; lawful = ∥∥₁_map₂ law work raised; written = ∣ tt ∣₁; count = refl })
 
 -- a mesh that was loaded
 module _ (cs fs ms ss : List ℕ) (j : fine ≡ judge (mesh_of cs fs ms ss)) where
@@ -179,4 +173,4 @@ module _ (cs fs ms ss : List ℕ) (j : fine ≡ judge (mesh_of cs fs ms ss)) whe
       let q = w.0 in
       let p = w.1 in
       let law : Lawful (standing_in vs m.quads m.points) = subst Lawful (sym b.standing_is) judged_lawful in
-      ((omega arith, omega arith), (omega arith, (∣ rw (e, f) law ∣₁, (∣ tt ∣₁, (refl, tt)))))
+      record { few = (omega arith, omega arith); room = omega arith; lawful = ∣ rw (e, f) law ∣₁; written = ∣ tt ∣₁; count = refl }

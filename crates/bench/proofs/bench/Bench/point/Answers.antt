@@ -25,7 +25,7 @@ pub left_after-left-requires : goal.left_after-left-requires
 left_after-left-requires c =
     let b = c.args.self.now in
     let room = working_room b.mark b.quads b.points b.words.cells.now b.stage c.in-Working.is b.room in
-    ((room, omega arith), working_count b.mark b.quads b.points b.words.cells.now b.stage b.left c.in-Working.is b.count)
+    record { points_in_bounds = (room, omega arith); left_value = working_count b.mark b.quads b.points b.words.cells.now b.stage b.left c.in-Working.is b.count }
 
 pub run_point-requires : goal.run_point-requires
 run_point-requires c =
@@ -50,5 +50,5 @@ returns-else-point-self c =
     let kept = task_keeps b.mark b.quads b.points b.words.cells.now b.stage (point_task c.args.point.0) _ _ c.in-Working.is b.few b.room b.lawful b.written c.if-point-self.false c.left_after-left.ensures c.run_point.ensures in
     record {
       call = point_carried b.mark b.quads b.points b.words.cells.now b.stage c.args.point.0 _ c.in-Working.is c.if-point-self.false range room c.run_point.ensures;
-      count = kept.1.1.1.1.0;
+      count = kept.count;
     }

@@ -8,16 +8,16 @@ pub overflow_sub-result : goal.overflow_sub-result
 overflow_sub-result c =
     let ran = block c.args.self.now.cells.now (43 * c.args.quads + 2 * c.args.points) (c.args.quads + c.args.points) in
     let l = length_block c.args.self.now.cells.now (43 * c.args.quads + 2 * c.args.points) (c.args.quads + c.args.points) (omega arith) in
-    (count_fresh ran c.args.task c.args.left (omega arith) c.if-waits.ensures c.requires.1).0
+    (count_fresh ran c.args.task c.args.left (omega arith) c.if-waits.ensures c.requires.left_value).0
 
 pub returns-then-waits : goal.returns-then-waits
 returns-then-waits c =
     let ran = block c.args.self.now.cells.now (43 * c.args.quads + 2 * c.args.points) (c.args.quads + c.args.points) in
     let l = length_block c.args.self.now.cells.now (43 * c.args.quads + 2 * c.args.points) (c.args.quads + c.args.points) (omega arith) in
-    (count_fresh ran c.args.task c.args.left (omega arith) c.if-waits.ensures c.requires.1).1
+    (count_fresh ran c.args.task c.args.left (omega arith) c.if-waits.ensures c.requires.left_value).1
 
 pub returns-else-waits : goal.returns-else-waits
 returns-else-waits c =
     let ran = block c.args.self.now.cells.now (43 * c.args.quads + 2 * c.args.points) (c.args.quads + c.args.points) in
     let l = length_block c.args.self.now.cells.now (43 * c.args.quads + 2 * c.args.points) (c.args.quads + c.args.points) (omega arith) in
-    count_again ran c.args.task c.args.left (omega arith) c.if-waits.ensures c.requires.1
+    count_again ran c.args.task c.args.left (omega arith) c.if-waits.ensures c.requires.left_value

@@ -8,7 +8,7 @@ put_friends-requires c =
     let l1 = length_after _ _ _ c.put_row.ensures in
     let b0 : c.friend-g0.result < 2 * c.args.quads = omega (arith, c.friend-g0.ensures, c.requires.range.friends_are_edges (2 * c.args.q) (omega arith)) in
     let b1 : c.friend-g1.result < 2 * c.args.quads = omega (arith, c.friend-g1.ensures, c.requires.range.friends_are_edges (2 * c.args.q + 1) (omega arith)) in
-    ((omega arith, omega arith), (omega arith, omega arith), (omega arith, omega arith))
+    record { q_in_bounds = (omega arith, omega arith); g0_in_bounds = (omega arith, omega arith); g1_in_bounds = (omega arith, omega arith) }
 
 pub put_marks-requires : goal.put_marks-requires
 put_marks-requires c =
@@ -16,7 +16,7 @@ put_marks-requires c =
     let l2 = length_after _ _ _ c.put_friends.ensures in
     let b0 : c.friend-g0.result < 2 * c.args.quads = omega (arith, c.friend-g0.ensures, c.requires.range.friends_are_edges (2 * c.args.q) (omega arith)) in
     let b1 : c.friend-g1.result < 2 * c.args.quads = omega (arith, c.friend-g1.ensures, c.requires.range.friends_are_edges (2 * c.args.q + 1) (omega arith)) in
-    ((omega arith, omega arith), (omega arith, omega arith), (omega arith, omega arith))
+    record { q_in_bounds = (omega arith, omega arith); g0_in_bounds = (omega arith, omega arith); g1_in_bounds = (omega arith, omega arith) }
 
 pub put_starts-requires : goal.put_starts-requires
 put_starts-requires c =
@@ -26,7 +26,7 @@ put_starts-requires c =
     let p = c.requires.range.points_enough in
     let b0 : c.friend-g0.result < 2 * c.args.quads = omega (arith, c.friend-g0.ensures, c.requires.range.friends_are_edges (2 * c.args.q) (omega arith)) in
     let b1 : c.friend-g1.result < 2 * c.args.quads = omega (arith, c.friend-g1.ensures, c.requires.range.friends_are_edges (2 * c.args.q + 1) (omega arith)) in
-    ((omega arith, omega arith), (omega arith, omega arith), (omega arith, omega arith))
+    record { q_in_bounds = (omega arith, omega arith); g0_in_bounds = (omega arith, omega arith); g1_in_bounds = (omega arith, omega arith) }
 
 pub bounds-self-quads : goal.bounds-self-quads
 bounds-self-quads c =
