@@ -70,7 +70,7 @@ module _ {V : Type 0} where
   module _ {R : Type 0} (lies : R → V → Type 0) (blended : List (V × ℕ) → V)
       (keeps : (b : R) (ps : List (V × ℕ)) → 0 < total ps → total ps ≤ most_weight → Each (lies b) ps → lies b (blended ps)) where
     -- one level on
-    values_lie : (m : Mesh) → Lawful m → (xs : List V) → length xs ≡ m.points → (b : R) → All (lies b) xs → All (lies b) (values blended m xs)
+    pub values_lie : (m : Mesh) → Lawful m → (xs : List V) → length xs ≡ m.points → (b : R) → All (lies b) xs → All (lies b) (values blended m xs)
     unfolding values
     values_lie m w xs n b a =
         all_counting (lies b) (λ s. blended (values_at (blended []) xs (taken (parts m s)))) 0 (m.points + 3 * m.quads)

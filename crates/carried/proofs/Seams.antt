@@ -288,7 +288,7 @@ seams_stay like middle laws m w j xs count = record {
 }
 
 -- equality is a likeness
-equals : {V : Type 0} (middle : V → V → V) → ((a b : V) → middle a b ≡ middle b a) → Likeness ◌≡◌ middle
+pub equals : {V : Type 0} (middle : V → V → V) → ((a b : V) → middle a b ≡ middle b a) → Likeness ◌≡◌ middle
 equals middle even = record {
   itself = λ a. refl;
   back = λ a b e. sym e;

@@ -10,7 +10,7 @@ use tables::lent::MOST_QUADS;
 // The first row that makes no value.
 fn judge_rows<K: Rowed>(rows: &[K::Row]) -> Result<(), Fault>
     requires { length rows.now ≤ 2 ^ 32 }
-    ensures { told result ≡ rows_refusal verdict rows.now }
+    ensures { told result ≡ rows_refusal K.verdict rows.now }
 {
     for i in 0..rows.len() {
         if let Err(_) = K::make(&rows[i]) {
@@ -29,7 +29,7 @@ pub(crate) fn judge<K: Rowed>(
     room: usize,
 ) -> Result<(), Fault>
     requires { (quads ≤ 2 ^ 32) × (standing ≤ 2 ^ 32) }
-    ensures { told result ≡ refusal verdict quads standing new rows.now room }
+    ensures { told result ≡ refusal K.verdict quads standing new rows.now room }
 {
     if 4 * quads > MOST_QUADS {
         return Err(Fault::LevelTooLarge);
@@ -43,8 +43,8 @@ pub(crate) fn judge<K: Rowed>(
 // The value that row i makes.
 pub(crate) fn value_at<K: Rowed>(rows: &[K::Row], i: usize) -> K
     requires within { i < length rows.now }
-    requires all { rows_refusal verdict rows.now ≡ fine }
-    ensures { (d : K) → result ≡ slice_index_or (made verdict rows.now) i d }
+    requires all { rows_refusal K.verdict rows.now ≡ fine }
+    ensures { (d : K) → result ≡ slice_index_or (made K.verdict rows.now) i d }
 {
     K::make(&rows[i]).unwrap()
 }

@@ -13,19 +13,21 @@ unfolding other_end
 across n f x y h k e = omega arith
 
 pub point_at-requires : goal.point_at-requires
+unfolding other_end
 point_at-requires g c =
     let e = c.requires.recorded in
     let h = c.requires.ready.lawful.sound.friends_are_edges c.args.off.0 e.reads.in_corners in
     record { lawful = c.requires.ready.lawful; within = across _ _ _ _ h (let f = e.friend_is in omega arith) c.other_end.ensures }
 
 pub point_at-requires-2 : goal.point_at-requires-2
+unfolding other_end
 point_at-requires-2 g c =
     let e = c.requires.recorded in
     let h = c.requires.ready.lawful.sound.friends_are_edges c.args.off.0 e.reads.in_corners in
     record { lawful = c.requires.ready.lawful; within = across _ _ _ _ h (let f = e.friend_is in omega arith) c.other_end-2.ensures }
 
 pub returns : goal.returns
-unfolding edge
+unfolding edge other_end
 returns g c =
     let m = mesh c.args.tables.now in
     let xs = made g.K.Rowed.verdict c.args.rows.now in

@@ -41,7 +41,7 @@ pub loop-met-preserved : goal.loop-met-preserved
 unfolding other_end
 loop-met-preserved g c =
     let m = mesh c.args.tables.now in
-    let i = c.loop-met.-met in
+    let i = c.loop-met._met in
     let at = c.loop-met.corner.0 in
     let k = c.args.weight in
     let xs = made g.K.Rowed.verdict c.args.rows.now in
@@ -79,7 +79,7 @@ returns g c = λ ps h few.
     let v = c.args.point.0 in
     let n = c.args.valence in
     let same = marked_all m v n c.requires.steps in
-    let all : c.loop-met.-met ≡ n = omega arith in
+    let all : c.loop-met._met ≡ n = omega arith in
     let count = ap length same in
     let few' : total ps + length (marked_met m v n) * c.args.weight ≤ 268435456 = rw same few in
     let h2 = (c.loop-met.invariant v c.requires.within refl).1 ps h few' in

@@ -12,7 +12,7 @@ use Rattle.carry.proofs.moved.add_marked.Given as goal
 abbrev pub invariant-loop-met : goal.invariant-loop-met
 invariant-loop-met g l =
     (v : ℕ) → v < (mesh l.tables).points → start (mesh l.tables) v ≡ l.initial.corner.0 →
-    (l.corner.0 ≡ walk (mesh l.tables) v l.-met)
+    (l.corner.0 ≡ walk (mesh l.tables) v l._met)
     × ((ps : List (ℕ × ℕ)) → Mixed g.K.ValueKind.blended g.K.ValueKind.holds (made g.K.Rowed.verdict l.rows) l.initial.mix ps →
     total ps + length (marked_met (mesh l.tables) v l.valence) * l.weight ≤ most_weight →
-    Mixed g.K.ValueKind.blended g.K.ValueKind.holds (made g.K.Rowed.verdict l.rows) l.mix (ps ++ crease_parts (mesh l.tables) l.weight (marked_met (mesh l.tables) v l.-met)))
+    Mixed g.K.ValueKind.blended g.K.ValueKind.holds (made g.K.Rowed.verdict l.rows) l.mix (ps ++ crease_parts (mesh l.tables) l.weight (marked_met (mesh l.tables) v l._met)))

@@ -48,7 +48,7 @@ unfolding other_end diagonal
 loop-met-preserved g c = λ v l e.
     let m = mesh c.args.tables.now in
     let k = c.args.times in
-    let i = c.loop-met.-met in
+    let i = c.loop-met._met in
     let inv = c.loop-met.invariant v l e in (
       walk_more m v i _ _ inv.0 c.next_corner-corner.ensures.goes,
       λ ps h few.
@@ -79,6 +79,6 @@ returns g c = λ ps h few.
     let h1 = c.add_at.ensures ps h (omega arith) in
     let more : total (ps ++ (v, own) ∷ []) ≡ total ps + (own + 0) = total_append ps ((v, own) ∷ []) in
     let h2 = (c.loop-met.invariant v c.requires.within refl).1 (ps ++ (v, own) ∷ []) h1 (omega arith) in
-    let all : c.loop-met.-met ≡ n = omega arith in
+    let all : c.loop-met._met ≡ n = omega arith in
     subst (Mixed g.K.ValueKind.blended g.K.ValueKind.holds (made g.K.Rowed.verdict c.args.rows.now) c.loop-met.mix)
     (ap (λ i. (ps ++ (v, own) ∷ []) ++ times k (round m (met m v i))) all ∙ smooth_is m v n k steps ps) h2

@@ -13,7 +13,7 @@ use Rattle.carry.proofs.moved.add_smooth.Given as goal
 abbrev pub invariant-loop-met : goal.invariant-loop-met
 invariant-loop-met g l =
     (v : ℕ) → v < (mesh l.tables).points → start (mesh l.tables) v ≡ l.initial.corner.0 →
-    (l.corner.0 ≡ walk (mesh l.tables) v l.-met)
+    (l.corner.0 ≡ walk (mesh l.tables) v l._met)
     × ((ps : List (ℕ × ℕ)) → Mixed g.K.ValueKind.blended g.K.ValueKind.holds (made g.K.Rowed.verdict l.rows) l.initial.mix ps →
     total ps + 7 * (l.times * l.valence) ≤ most_weight →
-    Mixed g.K.ValueKind.blended g.K.ValueKind.holds (made g.K.Rowed.verdict l.rows) l.mix (ps ++ times l.times (round (mesh l.tables) (met (mesh l.tables) v l.-met))))
+    Mixed g.K.ValueKind.blended g.K.ValueKind.holds (made g.K.Rowed.verdict l.rows) l.mix (ps ++ times l.times (round (mesh l.tables) (met (mesh l.tables) v l._met))))

@@ -14,7 +14,7 @@ put-requires g c =
     let m = mesh c.args.tables.now in
     let s = c.edge_slot.ensures ∙ ap edge_slot c.record_of-record.ensures.friend_is in
     let w = c.requires.ready.lawful.sound in
-    let l = edge_slot_below m w.points-enough (friend m c.args.off.0) (w.friends-are-edges c.args.off.0 c.requires.within) in
+    let l = edge_slot_below m w.points_enough (friend m c.args.off.0) (w.friends_are_edges c.args.off.0 c.requires.within) in
     let r = c.requires.room in
     omega arith
 

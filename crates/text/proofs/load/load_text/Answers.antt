@@ -22,8 +22,8 @@ load_front-requires c =
     let h = c.in-Ok.ensures in
     let w = was_read (reading c.args.text.now r) c.in-Ok.counts h.answer in
     let f = has_room w.mesh c.args.text.now r w.is in
-    let q = w.quads-are in
-    let v = w.points-are in
+    let q = w.quads_are in
+    let v = w.points_are in
     record { corner_room = omega arith; friend_room = omega arith; mark_room = omega arith; start_room = omega arith }
 
 pub returns-in_err-load_front : goal.returns-in_err-load_front
@@ -33,7 +33,7 @@ returns-in_err-load_front c =
     let h = c.in-Ok.ensures in
     let w = was_read (reading c.args.text.now r) c.in-Ok.counts h.answer in
     let P : Reading → Type 0 = λ o. Holds o c.args.corners.now c.args.friends.now c.args.marks.now c.args.starts.now c.read.new.corners c.read.new.friends c.read.new.marks c.read.new.starts in
-    let g = loaded w.mesh c.args.text.now r w.is c.in-Ok.counts c.args.corners.now c.args.friends.now c.args.marks.now c.args.starts.now c.read.new.corners c.read.new.friends c.read.new.marks c.read.new.starts w.quads-are w.points-are (subst P w.is h.tables) in
+    let g = loaded w.mesh c.args.text.now r w.is c.in-Ok.counts c.args.corners.now c.args.friends.now c.args.marks.now c.args.starts.now c.read.new.corners c.read.new.friends c.read.new.marks c.read.new.starts w.quads_are w.points_are (subst P w.is h.tables) in
     let q = p.1 ∙ ap Err p.2 in
     let C : Result (Unit {0}) TextFault → Type 0 = λ x. Called (state c.args.bench.now) (load_text c.args.text.now r) (state c.load_front.new.bench) (told_text x) in
     let L : Result (Unit {0}) TextFault → Type 0 = Loaded c.args.text.now (state c.load_front.new.bench) in
@@ -46,7 +46,7 @@ returns c =
     let h = c.in-Ok.ensures in
     let w = was_read (reading c.args.text.now r) c.in-Ok.counts h.answer in
     let P : Reading → Type 0 = λ o. Holds o c.args.corners.now c.args.friends.now c.args.marks.now c.args.starts.now c.read.new.corners c.read.new.friends c.read.new.marks c.read.new.starts in
-    let g = loaded w.mesh c.args.text.now r w.is c.in-Ok.counts c.args.corners.now c.args.friends.now c.args.marks.now c.args.starts.now c.read.new.corners c.read.new.friends c.read.new.marks c.read.new.starts w.quads-are w.points-are (subst P w.is h.tables) in
+    let g = loaded w.mesh c.args.text.now r w.is c.in-Ok.counts c.args.corners.now c.args.friends.now c.args.marks.now c.args.starts.now c.read.new.corners c.read.new.friends c.read.new.marks c.read.new.starts w.quads_are w.points_are (subst P w.is h.tables) in
     let d = g _ _ _ c.in_ok-load_front.ensures in
-    let t = stands w.mesh c.args.text.now r w.is c.in-Ok.counts c.args.corners.now c.args.friends.now c.args.marks.now c.args.starts.now c.read.new.corners c.read.new.friends c.read.new.marks c.read.new.starts w.quads-are w.points-are (subst P w.is h.tables) _ _ d in
+    let t = stands w.mesh c.args.text.now r w.is c.in-Ok.counts c.args.corners.now c.args.friends.now c.args.marks.now c.args.starts.now c.read.new.corners c.read.new.friends c.read.new.marks c.read.new.starts w.quads_are w.points_are (subst P w.is h.tables) _ _ d in
     record { call = d; tables = h.tables; loaded = t; whose = (w.mesh, w.is) }
