@@ -24,7 +24,7 @@ use tables::slot::{edge_slot, face_slot, old_slot};
 // Writes the row of a value.
 fn put<K: Rowed>(out: &mut [K::Row], slot: usize, value: &K)
     requires { slot < length out.old }
-    ensures { out.new ≡ slice_set out.old slot (K.row value.now) }
+    ensures { out.new ≡ slice_set out.old slot (K.Rowed.row value.now) }
 {
     out[slot] = value.to_row();
 }
