@@ -8,12 +8,12 @@ loop-done-init c = λ words mark m e. at_first words mark m _ e
 
 pub returns-in-Err : goal.returns-in-Err
 returns-in-Err c =
-    λ words mark m e. at_stop words mark m (state c.loop-done.bench) _ c.loop-done.-done c.args.levels _ _ c.loop-done-test.true (c.loop-done.invariant words mark m e) c.in-Err.ensures
+    λ words mark m e. at_stop words mark m (state c.loop-done.bench) _ c.loop-done._done c.args.levels _ _ c.loop-done-test.true (c.loop-done.invariant words mark m e) c.in-Err.ensures
 
 pub loop-done-preserved : goal.loop-done-preserved
 loop-done-preserved c =
-    λ words mark m e. at_next words mark m (state c.loop-done.bench) _ c.loop-done.-done (c.loop-done.invariant words mark m e) c.in_default.ensures
+    λ words mark m e. at_next words mark m (state c.loop-done.bench) _ c.loop-done._done (c.loop-done.invariant words mark m e) c.in_default.ensures
 
 pub returns : goal.returns
 returns c =
-    λ words mark m e. at_end words mark m (state c.loop-done.bench) c.loop-done.-done c.args.levels (omega arith) (omega arith) (c.loop-done.invariant words mark m e)
+    λ words mark m e. at_end words mark m (state c.loop-done.bench) c.loop-done._done c.args.levels (omega arith) (omega arith) (c.loop-done.invariant words mark m e)

@@ -7,4 +7,4 @@ use Rattle.exported.proofs.benches.refine_levels.Given as goal
 
 abbrev pub invariant-loop-done : goal.invariant-loop-done
 invariant-loop-done l =
-    (words mark : ℕ) (m : Mesh) → state l.initial.bench ≡ standing_on words mark m → At words mark m l.-done (state l.bench)
+    (words mark : ℕ) (m : Mesh) → state l.initial.bench ≡ standing_on words mark m → At words mark m l._done (state l.bench)
