@@ -1,6 +1,6 @@
 -- Division of a weighted sum by its weight, rounded once to the nearest whole number, a half to the greater.
 -- What others know of the rule are the laws below; a change of it is made here.
-use Rattle.std.specs.Prelude.{◌≡◌, ℕ, suc, ◌+◌, ◌*◌, ◌/◌, ◌<◌, ◌≤◌, ℤ, pos, negsuc, ◌+ℤ◌, ◌*ℤ◌, ◌≤ℤ◌, ◌<ℤ◌, refl}
+use Rattle.std.specs.Prelude.{◌≡◌, ℕ, suc, ◌+◌, ◌*◌, ◌/◌, ◌<◌, ℤ, pos, negsuc, ◌+ℤ◌, ◌*ℤ◌, ◌≤ℤ◌, ◌<ℤ◌, refl}
 use Rattle.std.proofs.Common.{ap, mul-add, mul-suc, mul_assoc, mul-le-mul_left, mod-lt, arith}
 use Rattle.std.proofs.Math.Nat.{div-add-mod}
 use borrow.Author.Differences.{ints, up, down, le_out, product_is}

@@ -1,5 +1,5 @@
 -- What a question answers, from the tables of its level.
-use Rattle.std.proofs.Common.{◌≡◌, ℕ, ◌+◌, ◌-◌, ◌*◌, ◌/◌, ◌<◌, ◌≤◌, cond, leb, List, length, get_or, take, drop, Some, None, Ok, Err, Result, sym, refl, ap, ◌∙◌, subst, inl, inr, arith}
+use Rattle.std.proofs.Common.{◌≡◌, ℕ, ◌+◌, ◌*◌, ◌/◌, ◌<◌, ◌≤◌, leb, List, length, get_or, Some, Ok, Err, sym, ap, ◌∙◌, subst, inl, inr, arith}
 use mathlib.Core.Logic.{∥∥₁_elim}
 use mathlib.Core.HLevel.{⊥_prop}
 use Rattle.std.proofs.lemmas.Bool.{cond-true, cond-false, le-leb, lt-leb, cases_lt, cases_eq}
@@ -8,7 +8,7 @@ use Rattle.std.proofs.ByRecursion.{all-has}
 use Rattle.mesh.specs.Causes.{mesh_of}
 use Rattle.mesh.specs.Marks.{MarkWord}
 use Rattle.mesh.specs.Mesh.{Mesh, Counted, Lawful, mark, most_quads}
-use Rattle.mesh.specs.Refusals.{Verdict, fine, declined, number_of, place_of}
+use Rattle.mesh.specs.Refusals.{fine, declined, number_of, place_of}
 use Rattle.mesh.specs.declared.fault.Fault.{Fault}
 use Rattle.refinement.specs.Tasks.{Task, TaskOf, mark_writes, blank, runs, refine}
 use Rattle.refinement.proofs.Keeps.{refinement_keeps_lawful}
@@ -24,7 +24,7 @@ use Rattle.layout.proofs.Blocks.{length_block}
 use Rattle.bench.specs.State.{bench_at, Few, Room, Stands, Works}
 use Rattle.bench.specs.declared.stage.Stage.{Stage}
 use Rattle.bench.specs.declared.stage.Stage.TheVariants.{Standing, Working}
-use Rattle.bench.specs.Questions.{seen, unseen, counted, asking, LawfulIf, Lent, Tells}
+use Rattle.bench.specs.Questions.{seen, unseen, counted, LawfulIf, Lent, Tells}
 use Rattle.bench.specs.declared.level.Level.{Level}
 use Rattle.bench.specs.declared.level.Level.TheVariants.{Standing as LevelStanding, InWork}
 

@@ -1,5 +1,5 @@
 -- That each call keeps what every bench keeps.
-use Rattle.std.proofs.Common.{◌≡◌, ℕ, zero, suc, ◌+◌, ◌-◌, ◌*◌, ◌<◌, ◌≤◌, true, false, cond, eqb, List, [], ◌∷◌, length, get_or, set, replicate, count_by, sym, refl, ap, ◌∙◌, subst, arith}
+use Rattle.std.proofs.Common.{◌≡◌, ℕ, zero, suc, ◌+◌, ◌-◌, ◌*◌, ◌<◌, ◌≤◌, true, false, cond, eqb, List, [], length, get_or, set, replicate, count_by, sym, refl, ap, ◌∙◌, subst, arith}
 use mathlib.Core.Logic.{∥∥₁_elim, ∥∥₁_map, ∥∥₁_map₂}
 use native.Mathlib.Bridge.{le_prop}
 use Rattle.std.proofs.lemmas.List.Sums.{sum_by-cons, sum_by-set}
@@ -12,13 +12,12 @@ use Rattle.refinement.specs.Tasks.{Task, TaskOf, number, blank, run, runs}
 use Rattle.refinement.proofs.Causes.{judges}
 use Rattle.refinement.proofs.Keeps.{refinement_keeps_lawful}
 use Rattle.refinement.proofs.Order.{any_order, work_goes_on}
-use Rattle.chain.specs.Calls.{Work}
 use Rattle.chain.proofs.Flags.{ran_none, ran_push, ran_all}
 use Rattle.layout.specs.Layout.{block, standing_in, work_in, laid, after_task, InRange, Written}
 use Rattle.layout.specs.Laws.{four_laid, LoadWrites}
 use Rattle.layout.proofs.Laid.{begins_write, finishes_write, loads_write}
 use Rattle.layout.proofs.Writes.{tasks_write}
-use Rattle.bench.specs.State.{bench_at, Few, Room, Stands, Works, Count}
+use Rattle.bench.specs.State.{Few, Room, Stands, Works, Count}
 use Rattle.bench.specs.declared.stage.Stage.{Stage}
 use Rattle.bench.specs.declared.stage.Stage.TheVariants.{Empty, Standing, Working}
 

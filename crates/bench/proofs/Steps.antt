@@ -1,5 +1,5 @@
 -- What each call answers and leaves, by the stage of the bench.
-use Rattle.std.proofs.Common.{◌≡◌, ℕ, ◌+◌, ◌*◌, ◌<◌, ◌≤◌, cond, not, eqb, ltb, leb, List, length, get_or, set, replicate, Some, None, sym, refl, ap, ◌∙◌, subst, arith}
+use Rattle.std.proofs.Common.{◌≡◌, ℕ, ◌+◌, ◌*◌, ◌<◌, ◌≤◌, not, eqb, ltb, List, length, get_or, replicate, Some, None, sym, refl, ap, ◌∙◌, arith}
 use Rattle.std.proofs.lemmas.Bool.{cond-true, cond-false, lt-ltb, le-ltb, le-leb, lt-leb, eq-eqb, ne_eqb}
 use Rattle.mesh.specs.Count.{least}
 use Rattle.mesh.specs.Causes.{judge, mesh_of}
@@ -9,7 +9,7 @@ use Rattle.refinement.specs.Tasks.{Task, quad_task, point_task, TaskOf}
 use Rattle.chain.specs.Calls.{Call, load, begin, quad, point, finish, withdraw, State, cause, and_next, missing, words_to_load, holding, refusal, carry}
 use Rattle.chain.specs.Clauses.{Called}
 use Rattle.chain.proofs.Runs.{carried, declines}
-use Rattle.layout.specs.Layout.{block, standing_in, work_in, laid, after_task, standing_bench, working_bench, InRange}
+use Rattle.layout.specs.Layout.{block, standing_in, laid, after_task, standing_bench, working_bench, InRange}
 use Rattle.layout.specs.Laws.{LoadWrites}
 use Rattle.layout.proofs.Laid.{begins_write, finishes_write}
 use Rattle.layout.proofs.Writes.{tasks_write}

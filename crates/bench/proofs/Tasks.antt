@@ -1,9 +1,9 @@
 -- A task's writes, one table after the other.
-use Rattle.std.proofs.Common.{◌≡◌, ℕ, suc, ◌+◌, ◌-◌, ◌*◌, ◌<◌, ◌≤◌, cond, leb, List, [], ◌∷◌, ◌++◌, length, get_or, take, drop, set, sym, refl, ap, ◌∙◌, inl, inr, arith}
+use Rattle.std.proofs.Common.{◌≡◌, ℕ, suc, ◌+◌, ◌*◌, ◌<◌, ◌≤◌, cond, leb, List, [], ◌∷◌, length, get_or, set, sym, refl, ap, ◌∙◌, inl, inr, arith}
 use Rattle.std.proofs.lemmas.List.{ext_get_or}
 use Rattle.std.proofs.lemmas.Bool.{cases_lt}
 use Rattle.mesh.specs.Mesh.{Mesh, friend, mark, start as point_start}
-use Rattle.refinement.specs.Tasks.{Task, quad_task, point_task, put, from, new_corners, old_slot, fallen, corner_writes}
+use Rattle.refinement.specs.Tasks.{quad_task, point_task, put, from, new_corners, old_slot, fallen, corner_writes}
 use Rattle.refinement.proofs.Puts.{length_put}
 use Rattle.layout.specs.Layout.{block, standing_in, laid, shifted, after_task}
 use Rattle.layout.proofs.Blocks.{length_block, getD_block}

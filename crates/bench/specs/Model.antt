@@ -1,5 +1,5 @@
 -- The state of a bench, and what an answer says: a file of its own, since it names the structs, and a struct's ghost fields cite State.
-use Rattle.std.specs.Prelude.{◌≡◌, ℕ, Some, None, Ok, Err, Option, Result}
+use Rattle.std.specs.Prelude.{◌≡◌, ℕ, Ok, Err, Result}
 use Rattle.mesh.specs.Refusals.{Verdict, fine, declined, number_of, place_of}
 use Rattle.mesh.specs.declared.fault.Fault.{Fault}
 use Rattle.chain.specs.Calls.{State}

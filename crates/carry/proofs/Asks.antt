@@ -1,5 +1,5 @@
 -- What a bench answers of its standing level.
-use Rattle.std.proofs.Common.{◌≡◌, ℕ, Some, None, Option, sym, refl, ap, subst, arith}
+use Rattle.std.proofs.Common.{◌≡◌, ℕ, Some, None, Option, sym, ap, subst, arith}
 use Rattle.chain.specs.Calls.{cause, missing}
 use Rattle.mesh.specs.Mesh.{Mesh}
 use Rattle.mesh.specs.Refusals.{Verdict, fine, declined}

@@ -3,7 +3,6 @@ use Rattle.std.proofs.Common.{◌≡◌, ℕ, ◌+◌, ◌-◌, ◌*◌, ◌<◌
 use Rattle.std.proofs.lemmas.List.{append_assoc}
 use Rattle.mesh.specs.Mesh.{Lawful, Mesh, valence}
 use Rattle.kinds.specs.Parts.{most_weight, total}
-use Rattle.kinds.proofs.Parts.{total_append}
 use Rattle.carried.specs.Blends.{cornered, creased, marked, sharpness, smooth, times}
 use Rattle.carried.proofs.Weights.{corner_sum, crease_sum, marked_few, product_le, sharp_most, smooth_total, total_times}
 use Rattle.carry.specs.Walks.{Seen}

@@ -1,12 +1,11 @@
 -- Parts along a walk, corner by corner.
-use Rattle.std.proofs.Common.{◌≡◌, ℕ, ◌+◌, ◌-◌, ◌*◌, ◌<◌, ◌≤◌, Bool, cond, ltb, List, [], ◌∷◌, ◌++◌, map, length, take, count_by, filter, sym, refl, ap, ◌∙◌, mul_assoc, mul_comm, add-mul, mul-add, arith}
+use Rattle.std.proofs.Common.{◌≡◌, ℕ, ◌+◌, ◌-◌, ◌*◌, ◌<◌, ◌≤◌, Bool, cond, ltb, List, [], ◌∷◌, ◌++◌, map, length, take, count_by, sym, ap, ◌∙◌, mul_assoc, mul_comm, add-mul, mul-add, arith}
 use Rattle.std.specs.List.{flat_map}
 use Rattle.std.proofs.lemmas.List.FromFn.{length-map-range_with_len, map-range_with_len_more, take-map-range_with_len}
 use Rattle.std.proofs.lemmas.List.{append_assoc, flat_map_more, map-append, map_push}
 use Rattle.std.proofs.lemmas.List.Sums.{length-filter, sum_by-take-le}
 use Rattle.mesh.specs.Mesh.{Mesh, mark, off_edge, point, valence, walk}
 use Rattle.kinds.specs.Parts.{total}
-use Rattle.kinds.proofs.Parts.{total_append}
 use Rattle.carried.specs.Blends.{around, smooth, times}
 use Rattle.carried.specs.Blends.{diagonal, other_end}
 use Rattle.carried.proofs.Weights.{product_le, smooth_sum, total_map, total_round, total_times}

@@ -1,9 +1,9 @@
 -- A bench refined level by level.
-use Rattle.std.proofs.Common.{◌≡◌, ℕ, zero, suc, ◌+◌, ◌<◌, ◌≤◌, Bool, true, false, ltb, Some, None, sym, refl, ap, ◌∙◌, subst, inl, inr, add-one, arith}
+use Rattle.std.proofs.Common.{◌≡◌, ℕ, suc, ◌+◌, ◌<◌, ◌≤◌, Bool, false, ltb, Some, None, sym, refl, ap, ◌∙◌, inl, inr, add-one, arith}
 use Rattle.std.proofs.lemmas.Bool.{cases_lt, cond-true, cond-false, lt-ltb, le-ltb}
 use Rattle.mesh.specs.Count.{least}
 use Rattle.mesh.specs.Mesh.{Mesh}
-use Rattle.mesh.specs.Refusals.{Verdict, fine, declined}
+use Rattle.mesh.specs.Refusals.{fine, declined}
 use Rattle.refinement.specs.Tasks.{level, refine}
 use Rattle.refinement.proofs.Totals.{least_is, least_none}
 use Rattle.chain.specs.Calls.{State, begin, refusal}

@@ -1,5 +1,5 @@
 -- Rows of numbers asked one by one.
-use Rattle.std.proofs.Common.{◌≡◌, ℕ, ◌+◌, ◌<◌, ◌≤◌, List, [], ◌∷◌, ◌++◌, map, length, get_or, take, drop, set, sym, refl, ap, ◌∙◌, arith}
+use Rattle.std.proofs.Common.{◌≡◌, ℕ, ◌+◌, ◌<◌, ◌≤◌, List, [], ◌∷◌, ◌++◌, map, length, get_or, take, drop, set, sym, ap, ◌∙◌, arith}
 use Rattle.std.proofs.lemmas.List.{append_assoc, append-nil, at_drop_more, at_drop_all, take_more_set, take-append-drop, drop-drop, drop-set-lt, length-take-le}
 use Rattle.requests.specs.Sessions.{Session, play, plays, replies, reply_of}
 use Rattle.exported_work.specs.Works.{numbers_of, over, request_of}

@@ -1,7 +1,5 @@
 -- Requests and what they give, as rows of numbers.
 use Rattle.std.specs.Prelude.{ℕ, cond, List, [], ◌∷◌, ◌++◌, map, length, take, drop, ◌==◌, slice_index}
-use Rattle.mesh.specs.declared.number.Point.{Point}
-use Rattle.mesh.specs.declared.number.Quad.{Quad}
 use Rattle.requests.specs.Sessions.{Reply, no_call, done, tasks_left, refused}
 use Rattle.requests.specs.declared.request.Request.{Request}
 use Rattle.requests.specs.declared.request.Request.TheVariants.{Load, Begin, RunQuad, RunPoint, Finish, Withdraw}

@@ -3,7 +3,6 @@ use Rattle.std.proofs.Common.{◌≡◌, ℕ, ◌+◌, ◌-◌, ◌*◌, ◌<◌
 use Rattle.std.specs.List.{AllByRecursion as All}
 use Rattle.std.proofs.lemmas.List.{length-take-le, length-drop, length-replicate, get_or-take, get_or-drop, get_or-replicate, ext_get_or, drop-set-lt, drop-set-add, take-set-le}
 use lib.Seq.{take-set-lt}
-use Rattle.mesh.specs.Mesh.{Mesh}
 use Rattle.refinement.specs.Tasks.{put}
 use Rattle.layout.specs.Layout.{block, level_at, shifted}
 

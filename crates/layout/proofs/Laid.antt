@@ -1,9 +1,8 @@
 -- Words laid over others, and the levels that they are.
 use Rattle.std.proofs.Common.{◌≡◌, ℕ, ◌+◌, ◌-◌, ◌*◌, ◌<◌, ◌≤◌, List, ◌++◌, length, get_or, take, drop, replicate, sym, refl, ap, ◌∙◌, zero-add, arith}
 use Rattle.std.proofs.lemmas.List.{length-append, length-take-le, length-drop, length-replicate, get_or_append_left, get_or-append_right, get_or-take, get_or-drop, get_or-replicate}
-use Rattle.mesh.specs.Mesh.{Mesh, Counted}
 use Rattle.refinement.specs.Tasks.{blank}
-use Rattle.layout.specs.Layout.{block, level_at, standing_in, work_in, laid}
+use Rattle.layout.specs.Layout.{block, laid}
 use Rattle.layout.specs.Laws.{BeginsWrite, FinishesWrite, LoadsWrite}
 use Rattle.layout.proofs.Blocks.{length_block, getD_block, block_is, block_zero, level_same}
 

@@ -1,12 +1,11 @@
 -- The writes of a task, block by block.
-use Rattle.std.proofs.Common.{◌≡◌, ℕ, suc, ◌+◌, ◌*◌, ◌<◌, ◌≤◌, ◌⊎◌, List, [], ◌∷◌, length, get_or, set, sym, refl, ap, ◌∙◌, inl, inr, arith}
-use Rattle.std.specs.List.{AllByRecursion as All}
+use Rattle.std.proofs.Common.{◌≡◌, ℕ, suc, ◌+◌, ◌*◌, ◌<◌, ◌≤◌, ◌⊎◌, List, [], ◌∷◌, length, ap, ◌∙◌, inl, inr, arith}
 use Rattle.std.proofs.lemmas.Bool.Decides.{nat_tests}
 use Rattle.mesh.specs.Mesh.{Mesh}
 use Rattle.refinement.specs.Tasks.{Task, quad_task, point_task, TaskOf, number, corner_writes, friend_writes, mark_writes, start_writes, from, new_corners, old_slot, face_slot, edge_slot, put, run}
 use Rattle.refinement.proofs.Puts.{length_put}
-use Rattle.layout.specs.Layout.{block, level_at, standing_in, work_in, shifted, after_task, InRange}
-use Rattle.layout.specs.Laws.{TaskWrites, TasksWrite}
+use Rattle.layout.specs.Layout.{block, standing_in, shifted, InRange}
+use Rattle.layout.specs.Laws.{TasksWrite}
 use Rattle.layout.proofs.Blocks.{Below, writes_inside, writes_outside}
 
 -- the slots of a task are below the count of its table

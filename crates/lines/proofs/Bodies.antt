@@ -4,7 +4,7 @@ use Rattle.std.proofs.lemmas.Bool.{and_parts, leb-true, cond-true, cond-false}
 use Rattle.mesh.specs.Mesh.{Mesh}
 use Rattle.mesh.specs.declared.fault.Fault.{Fault}
 use Rattle.mesh.specs.declared.fault.Fault.TheVariants.{BadLine, TooShort}
-use Rattle.lines.specs.Reading.{Rows, good, bad, line, lines, Room, roomy, Holds, opened, reading, Reading, accepted, refused, mesh_read, complete, starts_read, quads_read, body_read}
+use Rattle.lines.specs.Reading.{Rows, good, bad, line, lines, Room, roomy, Holds, opened, reading, Reading, accepted, refused, mesh_read, starts_read, quads_read, body_read}
 
 module _ (f v : ℕ) (t : List ℕ) where
   pub quad_missing : (i : ℕ) → lines 48 49 8 f t ≡ bad i → body_read f v t ≡ refused (BadLine (1 + i))

@@ -1,5 +1,5 @@
 -- Reading gives an outcome exactly where the text is as that outcome tells.
-use Rattle.std.proofs.Common.{◌≡◌, ℕ, zero, suc, ◌+◌, ◌-◌, ◌*◌, ◌<◌, ◌≤◌, Bool, true, false, ◌&&◌, leb, List, [], ◌∷◌, ◌++◌, length, get_or, take, drop, Some, None, Option, Result, sym, refl, ap, ◌∙◌, subst, inl, inr, append_assoc, arith, MatchOption}
+use Rattle.std.proofs.Common.{◌≡◌, ℕ, zero, suc, ◌+◌, ◌-◌, ◌*◌, ◌<◌, ◌≤◌, true, ◌&&◌, leb, List, [], ◌∷◌, ◌++◌, length, get_or, take, drop, Some, None, Option, Result, sym, refl, ap, ◌∙◌, subst, inl, inr, append_assoc, arith}
 use Rattle.std.specs.Result as results
 use Rattle.std.specs.List.{flat_map, AllByRecursion as All}
 use Rattle.std.proofs.ByRecursion.{All-take, All-drop}
@@ -10,14 +10,14 @@ use Rattle.mesh.specs.Mesh.{Mesh, Counted}
 use Rattle.mesh.specs.declared.fault.Fault.{Fault}
 use Rattle.mesh.specs.declared.fault.Fault.TheVariants.{BadLine, TooShort}
 use Rattle.lines.specs.declared.reader.Counts.{Counts}
-use Rattle.lines.specs.Laws.{TextOf, HasRoom, Opens, Refuses, no_counts, no_room, no_quad, no_start, surplus, Tells, ReadExactly, ReadingIsExact, mesh_in, Images}
-use Rattle.lines.specs.Lines.{Line, NoLine, Row, Begins}
-use Rattle.lines.specs.Reading.{Rows, good, bad, after, line, lines, mesh_read, Room, roomy, Reading, accepted, refused, complete, starts_read, quads_read, body_read, opened, reading, room, laid, answer, Holds}
-use Rattle.lines.specs.Text.{line_text, quad_rows, start_rows, mesh_text, WordSized, Writable}
+use Rattle.lines.specs.Laws.{TextOf, HasRoom, Opens, Refuses, no_counts, no_room, no_quad, no_start, surplus, Tells, ReadingIsExact, mesh_in, Images}
+use Rattle.lines.specs.Lines.{Line, NoLine, Begins}
+use Rattle.lines.specs.Reading.{Rows, good, bad, after, line, lines, mesh_read, Room, roomy, Reading, accepted, refused, starts_read, quads_read, body_read, opened, reading, room, laid, answer, Holds}
+use Rattle.lines.specs.Text.{line_text, quad_rows, start_rows, mesh_text, WordSized}
 use Rattle.lines.proofs.Bodies as bodies
 use Rattle.lines.proofs.Finds.{line_right, line_finds, line_none}
 use Rattle.lines.proofs.RowsRead.{afters, afters_good, afters_bad, two_words}
-use Rattle.lines.proofs.TextRows.{Back, rows_again, starts_again, tables_again, quad_rows_right, starts_back, start_rows_count, start_rows_right, joined_length, joined_sized}
+use Rattle.lines.proofs.TextRows.{rows_again, starts_again, tables_again, quad_rows_right, starts_back, start_rows_count, start_rows_right, joined_length, joined_sized}
 
 -- ---- lines in a row
 module _ (a b k : ℕ) where

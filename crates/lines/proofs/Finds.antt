@@ -1,14 +1,14 @@
 -- The word and the line that `word` and `line` find are those that the text begins with.
-use Rattle.std.proofs.Common.{◌≡◌, ℕ, zero, suc, ◌+◌, ◌*◌, ◌/◌, ◌%◌, ◌^◌, ◌<◌, ◌≤◌, Bool, true, false, cond, ◌&&◌, eqb, ltb, List, [], ◌∷◌, ◌++◌, length, get_or, drop, IfSome, Some, None, Option, sym, refl, ap, ◌∙◌, subst, div-lt_iff_lt-mul, pow-suc, arith}
+use Rattle.std.proofs.Common.{◌≡◌, ℕ, zero, suc, ◌+◌, ◌*◌, ◌/◌, ◌%◌, ◌^◌, ◌<◌, true, ◌&&◌, eqb, ltb, List, [], ◌∷◌, ◌++◌, length, get_or, drop, IfSome, Some, None, Option, sym, refl, ap, ◌∙◌, subst, div-lt_iff_lt-mul, pow-suc, arith}
 use Rattle.std.specs.List.{AllByRecursion as All}
 use Rattle.std.proofs.ByRecursion.{All-from_get_or}
 use Rattle.std.proofs.lemmas.List.{drop_at}
-use Rattle.std.proofs.lemmas.Bool.{cond_both, cond-true, and_parts, and_from, ltb-true, ltb-false, lt-ltb, le-ltb, eqb-true, eq-eqb}
-use Rattle.lines.specs.Lines.{digit_of, Ends, Word, Spaced, Words, Line, NoLine}
+use Rattle.std.proofs.lemmas.Bool.{cond_both, cond-true, and_parts, and_from, ltb-true, ltb-false, lt-ltb, eqb-true, eq-eqb}
+use Rattle.lines.specs.Lines.{digit_of, Ends, Word, Words, Line, NoLine}
 use Rattle.lines.specs.Reading.{front, number, same, word, words, before, ended, line}
-use Rattle.lines.specs.Text.{hex_byte, digits, width, word_text, words_text, line_text, WordSized}
+use Rattle.lines.specs.Text.{hex_byte, digits, width, word_text, WordSized}
 use Rattle.lines.proofs.LineWords.{first_two, line_words, words_line}
-use Rattle.lines.proofs.Words.{digit_back, digit_le, digit_in, length_digits, Wide, wide, width_is}
+use Rattle.lines.proofs.Words.{digit_back, digit_le, digit_in, length_digits, wide, width_is}
 
 -- ---- the digits in front
 front_split : (s : List ℕ) → s ≡ front s ++ drop (length (front s)) s

@@ -1,8 +1,8 @@
 -- Lemmas on the words of a line: they are the same however they are read, and what is read is the text. Assumes nothing.
-use Rattle.std.proofs.Common.{◌≡◌, ℕ, suc, ◌+◌, ◌<◌, ◌≤◌, List, [], ◌∷◌, ◌++◌, length, get_or, take, drop, sym, refl, ap, ◌∙◌, subst, append_assoc, arith}
+use Rattle.std.proofs.Common.{◌≡◌, ℕ, ◌≤◌, List, [], ◌∷◌, ◌++◌, length, get_or, take, drop, sym, refl, ap, ◌∙◌, subst, append_assoc, arith}
 use Rattle.std.specs.List.{AllByRecursion as All}
 use Rattle.std.proofs.lemmas.List.{take_all, drop_all}
-use Rattle.lines.specs.Lines.{digit_of, Ends, Word, Spaced, Words, Line}
+use Rattle.lines.specs.Lines.{Ends, Word, Spaced, Words, Line}
 use Rattle.lines.specs.Text.{word_text, words_text, line_text, WordSized}
 use Rattle.lines.proofs.Words.{same_word}
 

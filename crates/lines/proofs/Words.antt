@@ -1,9 +1,9 @@
 -- Lemmas on the digits of a word. Assumes nothing.
-use Rattle.std.proofs.Common.{◌≡◌, ℕ, zero, suc, ◌+◌, ◌-◌, ◌*◌, ◌/◌, ◌%◌, ◌^◌, ◌<◌, ◌≤◌, cond, ltb, ◌⊎◌, List, [], ◌∷◌, ◌++◌, length, get_or, take, drop, sym, refl, ap, ◌∙◌, subst, inl, inr, mod-eq_of_lt, mul_comm, div-lt_iff_lt-mul, pow-suc, div-one, add-one, arith, length-append}
+use Rattle.std.proofs.Common.{◌≡◌, ℕ, zero, suc, ◌+◌, ◌-◌, ◌*◌, ◌/◌, ◌%◌, ◌^◌, ◌<◌, ◌≤◌, ◌⊎◌, List, [], ◌∷◌, ◌++◌, length, get_or, take, drop, sym, refl, ap, ◌∙◌, subst, inl, inr, mod-eq_of_lt, mul_comm, div-lt_iff_lt-mul, pow-suc, div-one, add-one, arith, length-append}
 use native.Mathlib.Nat.{pow-le-pow_right, div-eq_of_lt, div-div-eq-div-mul}
 use Rattle.std.proofs.lemmas.Bool.Decides.{nat_tests, leb_tells}
-use Rattle.std.proofs.lemmas.List.{take_more, take_at, drop_at, take-append-drop, get_or-take, get_or-drop, get_or_past, get_or_append_left, get_or-append_right, get_or_at, same_from_push}
-use Rattle.lines.specs.Lines.{digit_of, Ends, Word, Run}
+use Rattle.std.proofs.lemmas.List.{take_more, take_at, drop_at, take-append-drop, get_or-take, get_or-drop, get_or_append_left, get_or-append_right, get_or_at, same_from_push}
+use Rattle.lines.specs.Lines.{digit_of, Word, Run}
 use Rattle.lines.specs.Text.{hex_byte, digits, width, word_text}
 
 lt_or_ge : (a b : ℕ) → (a < b) ⊎ (b ≤ a)

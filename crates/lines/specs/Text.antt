@@ -1,5 +1,5 @@
 -- The text of a word, of a line and of a mesh. All that is read or written follows from these.
-use Rattle.std.specs.Prelude.{◌≡◌, ℕ, zero, suc, ◌+◌, ◌/◌, ◌%◌, ◌<◌, cond, List, [], ◌∷◌, ◌++◌, map, take, drop, nat_lt}
+use Rattle.std.specs.Prelude.{ℕ, zero, suc, ◌+◌, ◌/◌, ◌%◌, ◌<◌, cond, List, [], ◌∷◌, ◌++◌, map, take, drop, nat_lt}
 use Rattle.std.specs.List.{flat_map, AllByRecursion as All}
 use Rattle.mesh.specs.Mesh.{Mesh}
 

@@ -1,5 +1,5 @@
 -- A mesh is lawful in one way at most, so what a type's invariant says of it without showing how can be used for all.
-use Rattle.std.proofs.Common.{◌≡◌, ℕ, ◌<◌, ◌⊎◌, ap, inl, inr, arith}
+use Rattle.std.proofs.Common.{ℕ, ◌<◌, ap, inl, inr, arith}
 use mathlib.Core.HLevel.{Π_prop, →_prop}
 use mathlib.Core.Logic.{∥∥₁_elim}
 use native.Mathlib.Bridge.{le_prop}

@@ -1,11 +1,11 @@
 -- A slip that is held closes the level in work of its bench.
-use Rattle.std.proofs.Common.{◌≡◌, ℕ, Bool, true, false, not, eqb, List, [], ◌∷◌, Some, None, Option, sym, refl, ap, ◌∙◌, subst, arith}
+use Rattle.std.proofs.Common.{◌≡◌, ℕ, Bool, true, false, not, List, [], ◌∷◌, Some, None, Option, refl, ap, ◌∙◌, arith}
 use Rattle.std.proofs.lemmas.Bool.{cond-false, eq-eqb}
 use Rattle.mesh.specs.Mesh.{Mesh}
 use Rattle.mesh.specs.Causes.{judge}
 use Rattle.mesh.specs.Refusals.{Verdict, fine, declined}
 use Rattle.refinement.specs.Tasks.{Task, quad_task, point_task}
-use Rattle.chain.specs.Calls.{Call, load, begin, quad, point, finish, withdraw, Work, State, cause, and_next, missing, opened, worked, refusal, carry, either, next}
+use Rattle.chain.specs.Calls.{begin, quad, point, finish, withdraw, Work, State, cause, and_next, missing, opened, worked, refusal, carry, either}
 use Rattle.requests.specs.Sessions.{Session, held_then, load_from, play, plays, unless}
 use Rattle.requests.specs.declared.request.Request.{Request}
 use Rattle.requests.specs.declared.request.Request.TheVariants.{Load, Begin, RunQuad, RunPoint, Finish, Withdraw}

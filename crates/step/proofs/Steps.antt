@@ -1,15 +1,14 @@
 -- What the step answers, call by call.
-use Rattle.std.proofs.Common.{◌≡◌, ℕ, ◌+◌, ◌*◌, ◌/◌, ◌<◌, ◌≤◌, Bool, true, false, not, ltb, List, [], ◌∷◌, length, Some, None, Ok, Err, MatchBool, Option, Result, sym, refl, ap, ◌∙◌, subst, inl, inr, arith}
+use Rattle.std.proofs.Common.{◌≡◌, ℕ, ◌*◌, ◌/◌, ◌<◌, ◌≤◌, Bool, true, false, not, ltb, List, length, Some, None, Ok, Err, MatchBool, Option, Result, sym, refl, ap, ◌∙◌, subst, inl, inr, arith}
 use Rattle.std.proofs.lemmas.Bool.{cond-true, cond-false, lt-ltb, le-ltb, cases_lt}
 use Rattle.mesh.specs.Causes.{judge, mesh_of}
-use Rattle.mesh.specs.Mesh.{Mesh, Counted, Lawful, most_quads}
-use Rattle.mesh.specs.Refusals.{Verdict, fine, declined, number_of, place_of, told}
+use Rattle.mesh.specs.Mesh.{Mesh, most_quads}
+use Rattle.mesh.specs.Refusals.{Verdict, fine, declined, number_of, place_of}
 use Rattle.mesh.specs.declared.fault.Fault.{Fault}
 use Rattle.lines.specs.Laws.{TextOf, HasRoom}
 use Rattle.lines.specs.Reading.{Reading, accepted, refused, reading}
 use Rattle.lines.specs.Text.{mesh_text}
 use Rattle.lines.proofs.Exactly.{reading_is_exact}
-use Rattle.refinement.specs.Laws.{JudgedRight}
 use Rattle.refinement.specs.Tasks.{refine}
 use Rattle.refinement.proofs.Causes.{judges}
 use Rattle.chain.specs.Calls.{State, made, load_text, begin, refusal, text_refusal, load_refusal, and_next, cause, missing, tables_of, holding, next, carry, either, words_to_load, words_to_begin, read_mesh}

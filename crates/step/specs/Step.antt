@@ -1,5 +1,5 @@
 -- The step on bytes: a mesh text in, the text of the mesh refined once out, or the frame of a refusal.
-use Rattle.std.specs.Prelude.{◌≡◌, ℕ, ◌*◌, ◌≤◌, cond, List, length, MatchBool, nat_lt}
+use Rattle.std.specs.Prelude.{◌≡◌, ℕ, ◌≤◌, cond, List, length, MatchBool, nat_lt}
 use Rattle.mesh.specs.Causes.{judge}
 use Rattle.mesh.specs.Mesh.{Mesh, Lawful}
 use Rattle.mesh.specs.Refusals.{Verdict, fine, declined, number_of, place_of}

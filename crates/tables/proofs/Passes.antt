@@ -1,11 +1,11 @@
 -- The verdict of one test taken alone, and the verdict of all ten from theirs.
-use Rattle.std.proofs.Common.{◌≡◌, ℕ, ◌*◌, ◌<◌, ◌≤◌, Bool, true, false, not, ◌⊎◌, sym, refl, ap, ◌∙◌, inl, inr, arith}
+use Rattle.std.proofs.Common.{◌≡◌, ℕ, ◌*◌, ◌<◌, Bool, true, false, not, sym, refl, ap, ◌∙◌, inl, inr, arith}
 use Rattle.std.proofs.lemmas.Bool.{cases_Bool, cases_lt, not-true, not-false}
 use Rattle.mesh.specs.Causes.{once, each, judge, shape_ok, quads_ok, points_ok, corner_ok, friend_ok, mark_ok, back_ok, start_ok, walk_ok, all_met}
 use Rattle.mesh.specs.Count.{least}
 use Rattle.mesh.specs.Mesh.{Mesh}
 use Rattle.mesh.specs.Refusals.{Verdict, fine, declined}
-use Rattle.refinement.proofs.Causes.{once_on, once_fault, each_on, each_fault}
+use Rattle.refinement.proofs.Causes.{once_fault, each_on, each_fault}
 use Rattle.refinement.proofs.Tests.{shape_tells, quads_tell, points_tell, friend_tells, mark_tells, start_tells}
 use Rattle.refinement.proofs.Totals.{least_fails, least_passes}
 use Rattle.tables.specs.Passed.{Sized, Worded, Started}

@@ -1,11 +1,11 @@
 -- What the words that the tests passed are good for: every off-edge of the tables can be read, and a step from a corner is to a corner.
-use Rattle.std.proofs.Common.{◌≡◌, ℕ, suc, ◌+◌, ◌*◌, ◌%◌, ◌<◌, ◌≤◌, sym, refl, ap, ◌∙◌, arith}
+use Rattle.std.proofs.Common.{◌≡◌, ℕ, suc, ◌+◌, ◌*◌, ◌%◌, ◌<◌, sym, refl, ap, ◌∙◌, arith}
 use Rattle.mesh.specs.Count.{total}
 use Rattle.mesh.specs.Mesh.{Mesh, Sound, RunsBack, point, friend, off_edge, step, most_quads}
 use Rattle.refinement.proofs.Steps.{off_edge_below}
 use Rattle.tables.specs.Edges.{Reads, RecordOf, Steps}
 use Rattle.tables.specs.declared.edge.EdgeRecord.{EdgeRecord}
-use Rattle.tables.specs.Passed.{Sized, Worded}
+use Rattle.tables.specs.Passed.{Worded}
 
 pub all_read : (m : Mesh) → Worded m → (o : ℕ) → o < 2 * m.quads → Reads m o
 all_read m w o h =

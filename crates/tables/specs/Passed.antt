@@ -1,7 +1,7 @@
 -- What the tests of a load that passed have told, as the later ones need it.
-use Rattle.std.specs.Prelude.{◌≡◌, ℕ, ◌*◌, ◌<◌, ◌≤◌}
+use Rattle.std.specs.Prelude.{ℕ, ◌*◌, ◌<◌, ◌≤◌}
 use Rattle.mesh.specs.Marks.{MarkWord}
-use Rattle.mesh.specs.Mesh.{Mesh, Counted, point, friend, mark, start, most_quads}
+use Rattle.mesh.specs.Mesh.{Mesh, Counted, friend, mark, start, most_quads}
 
 -- after causes 1 to 3: the tables have the lengths of a mesh
 pub record Sized (m : Mesh) : Type 0 where

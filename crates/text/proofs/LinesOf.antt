@@ -1,7 +1,7 @@
 -- The lines of a mesh one by one, and how long they are.
 use Rattle.std.proofs.Common.{◌≡◌, ℕ, zero, suc, ◌+◌, ◌*◌, ◌<◌, ◌≤◌, List, [], ◌∷◌, ◌++◌, length, get_or, take, drop, sym, refl, ap, ◌∙◌, append_assoc, arith, length-append}
 use Rattle.std.specs.List.{flat_map}
-use Rattle.std.proofs.lemmas.List.{take_more, drop_more, drop-drop, flat_map_more, length-drop, take-append-drop, take_all, nil_from_length}
+use Rattle.std.proofs.lemmas.List.{take_more, drop_more, drop-drop, flat_map_more, length-drop, take-append-drop, nil_from_length}
 use Rattle.mesh.specs.Mesh.{Mesh, Counted}
 use Rattle.lines.specs.Text.{word_text, words_text, line_text, quad_rows, start_rows, mesh_text}
 use Rattle.text.proofs.Writes.{length_line}

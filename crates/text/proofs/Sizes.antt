@@ -1,5 +1,5 @@
 -- What is known of the tables of a lawful level.
-use Rattle.std.proofs.Common.{◌≡◌, ℕ, ◌*◌, ◌/◌, ◌≤◌, length, refl, arith}
+use Rattle.std.proofs.Common.{◌≡◌, ◌*◌, ◌/◌, ◌≤◌, length, refl, arith}
 use Rattle.mesh.specs.Causes.{mesh_of}
 use Rattle.mesh.specs.Mesh.{Lawful}
 use Rattle.tables.specs.Lent.{mesh}

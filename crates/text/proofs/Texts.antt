@@ -1,7 +1,7 @@
 -- A text that is read is loaded as the mesh that its tables then hold.
-use Rattle.std.proofs.Common.{◌≡◌, ℕ, ◌*◌, ◌/◌, ◌≤◌, List, length, take, drop, Some, Ok, Err, Result, sym, refl, ap, ◌∙◌, subst, arith}
+use Rattle.std.proofs.Common.{◌≡◌, ℕ, ◌*◌, ◌/◌, List, length, take, drop, Some, Ok, Err, sym, refl, ap, ◌∙◌, subst, arith}
 use Rattle.std.proofs.lemmas.List.{take_at}
-use Rattle.mesh.specs.Mesh.{Mesh, Counted}
+use Rattle.mesh.specs.Mesh.{Mesh}
 use Rattle.mesh.specs.Causes.{mesh_of}
 use Rattle.mesh.specs.Refusals.{Verdict, fine, declined, number_of, place_of}
 use Rattle.mesh.specs.declared.fault.Fault.{Fault}

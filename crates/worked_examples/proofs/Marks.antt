@@ -1,5 +1,5 @@
 -- The greatest mark, at any off-edge of the pillow, and one that is greater.
-use Rattle.std.proofs.Common.{◌≡◌, ℕ, zero, suc, ◌<◌, ◌≤◌, ltb, set, replicate, refl, ap, ◌∙◌, arith}
+use Rattle.std.proofs.Common.{◌≡◌, ℕ, zero, suc, ◌<◌, ◌≤◌, ltb, refl, ap, ◌∙◌, arith}
 use Rattle.std.proofs.lemmas.Bool.{cond-false, le-ltb}
 use Rattle.mesh.specs.Causes.{judge, mesh_of}
 use Rattle.mesh.specs.Mesh.{Lawful}

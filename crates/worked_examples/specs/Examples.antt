@@ -1,5 +1,5 @@
 -- The worked examples: what the definitions that the contracts cite give at numbers worked out by hand.
-use Rattle.std.specs.Prelude.{◌≡◌, ℕ, ◌<◌, ◌≤◌, List, [], ◌∷◌, map, replicate, pos, neg_ℤ, slice_index_or, slice_set}
+use Rattle.std.specs.Prelude.{◌≡◌, ℕ, ◌<◌, ◌≤◌, [], ◌∷◌, map, replicate, pos, neg_ℤ, slice_index_or, slice_set}
 use Rattle.mesh.specs.Mesh.{Lawful}
 use Rattle.mesh.specs.Refusals.{fine, declined, told}
 use Rattle.refinement.specs.Pillow.{pillow, pillow_refined}

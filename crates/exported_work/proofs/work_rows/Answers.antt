@@ -1,4 +1,4 @@
-use Rattle.std.proofs.Common.{length, take, refl}
+use Rattle.std.proofs.Common.{length, refl}
 use Rattle.bench.specs.Model.{state}
 use Rattle.requests.proofs.Fits.{settles}
 use Rattle.requests.proofs.Through.{closed, fits_held, never_refused}

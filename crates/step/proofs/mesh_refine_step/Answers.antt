@@ -1,5 +1,5 @@
-use Rattle.std.proofs.Common.{◌≡◌, Ok, Err, sym, ap, ◌∙◌, arith}
-use Rattle.mesh.specs.Refusals.{fine, declined, number_of, place_of}
+use Rattle.std.proofs.Common.{Ok, Err, ap, ◌∙◌}
+use Rattle.mesh.specs.Refusals.{number_of, place_of}
 use Rattle.mesh.specs.declared.fault.Fault.{Fault}
 use Rattle.refinement.specs.Tasks.{refine}
 use Rattle.bench.specs.Model.{state}

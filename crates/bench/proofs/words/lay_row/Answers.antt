@@ -1,4 +1,4 @@
-use Rattle.std.proofs.Common.{◌≡◌, sym, ◌∙◌, arith}
+use Rattle.std.proofs.Common.{◌∙◌}
 use Rattle.refinement.proofs.Loops.{lay_none, lay_more, lay_all}
 use Rattle.bench.proofs.words.lay_row.Goals as goal
 

@@ -1,5 +1,5 @@
-use Rattle.std.proofs.Common.{sym, refl, ap, ◌∙◌, arith}
-use Rattle.mesh.specs.Mesh.{mark, step}
+use Rattle.std.proofs.Common.{ap, ◌∙◌, arith}
+use Rattle.mesh.specs.Mesh.{mark}
 use Rattle.refinement.proofs.Steps.{off_edge_below, step_below}
 use Rattle.tables.proofs.Reading.{step_by}
 use Rattle.tables.specs.Lent.{mesh}

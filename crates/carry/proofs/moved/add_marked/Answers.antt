@@ -1,8 +1,7 @@
-use Rattle.std.proofs.Common.{◌≡◌, ◌+◌, ◌*◌, ◌≤◌, Bool, true, false, cond, ltb, [], ◌∷◌, ◌++◌, length, sym, refl, ap, ◌∙◌, subst, arith}
+use Rattle.std.proofs.Common.{◌≡◌, ◌+◌, ◌*◌, ◌≤◌, ltb, [], ◌∷◌, ◌++◌, length, sym, refl, ap, ◌∙◌, subst, arith}
 use Rattle.std.proofs.lemmas.List.{append-nil, length_push}
-use Rattle.std.proofs.lemmas.Bool.{cond-false, cond-true}
 use Rattle.mesh.specs.Causes.{mesh_of}
-use Rattle.mesh.specs.Mesh.{mark, off_edge, point, walk}
+use Rattle.mesh.specs.Mesh.{point}
 use Rattle.kinds.specs.Parts.{total}
 use Rattle.kinds.proofs.Parts.{total_append}
 use Rattle.refinement.proofs.Loops.{walk_first, walk_more}

@@ -1,7 +1,7 @@
-use Rattle.std.proofs.Common.{◌≡◌, ◌+◌, ◌-◌, ◌*◌, ◌≤◌, [], ◌∷◌, ◌++◌, sym, refl, ap, ◌∙◌, subst, arith}
+use Rattle.std.proofs.Common.{◌≡◌, ◌+◌, ◌-◌, ◌*◌, [], ◌∷◌, ◌++◌, sym, refl, ap, ◌∙◌, subst, arith}
 use Rattle.std.proofs.lemmas.List.{append-nil}
 use Rattle.mesh.specs.Causes.{mesh_of}
-use Rattle.mesh.specs.Mesh.{point, walk}
+use Rattle.mesh.specs.Mesh.{point}
 use Rattle.kinds.specs.Parts.{total}
 use Rattle.kinds.proofs.Parts.{total_append}
 use Rattle.refinement.proofs.Loops.{walk_first, walk_more}

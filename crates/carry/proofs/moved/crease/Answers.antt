@@ -1,6 +1,6 @@
 use Rattle.std.proofs.Common.{◌≡◌, ◌+◌, ◌-◌, ◌*◌, ◌≤◌, [], ◌∷◌, ◌++◌, length, sym, ap, ◌∙◌, arith}
 use Rattle.carried.specs.Blends.{marked, smooth, times}
-use Rattle.kinds.specs.Parts.{most_weight, total}
+use Rattle.kinds.specs.Parts.{total}
 use Rattle.kinds.proofs.Parts.{total_append}
 use Rattle.tables.specs.Lent.{mesh}
 use Rattle.carry.specs.Mixes.{blend}

@@ -1,6 +1,6 @@
-use Rattle.std.proofs.Common.{◌≡◌, ◌+◌, ◌-◌, ◌*◌, ◌≤◌, [], ◌∷◌, ◌++◌, length, sym, refl, ap, ◌∙◌, arith}
-use Rattle.carried.specs.Blends.{marked, sharpness, smooth, times}
-use Rattle.kinds.specs.Parts.{most_weight, total}
+use Rattle.std.proofs.Common.{◌≡◌, ◌-◌, ◌*◌, [], refl, ap, ◌∙◌, arith}
+use Rattle.carried.specs.Blends.{sharpness, smooth, times}
+use Rattle.kinds.specs.Parts.{total}
 use Rattle.tables.specs.Lent.{mesh}
 use Rattle.carry.specs.Mixes.{blend}
 use Rattle.carry.specs.Rows.{made}

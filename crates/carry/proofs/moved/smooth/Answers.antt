@@ -1,4 +1,4 @@
-use Rattle.std.proofs.Common.{◌*◌, [], ap, ◌∙◌, arith}
+use Rattle.std.proofs.Common.{[], ap, ◌∙◌, arith}
 use Rattle.carried.proofs.Weights.{product_le}
 use Rattle.carried.specs.Blends.{smooth}
 use Rattle.tables.specs.Lent.{mesh}

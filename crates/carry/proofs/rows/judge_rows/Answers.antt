@@ -1,4 +1,4 @@
-use Rattle.std.proofs.Common.{◌≡◌, Bool, is_ok, sym, ap, ◌∙◌, arith, below_more}
+use Rattle.std.proofs.Common.{Bool, is_ok, sym, ap, ◌∙◌, arith, below_more}
 use Rattle.std.proofs.lemmas.List.{get_or-map}
 use Rattle.refinement.proofs.Causes.{each_on, each_fault}
 use Rattle.carry.specs.Rows.{rows_refusal}

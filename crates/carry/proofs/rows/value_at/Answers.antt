@@ -1,4 +1,4 @@
-use Rattle.std.proofs.Common.{◌≡◌, is_ok, sym, ap, ◌∙◌}
+use Rattle.std.proofs.Common.{is_ok, ap, ◌∙◌}
 use Rattle.carry.proofs.Made.{makes_at, made_at}
 use Rattle.carry.proofs.rows.value_at.Goals as goal
 

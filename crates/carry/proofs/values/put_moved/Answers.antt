@@ -1,4 +1,4 @@
-use Rattle.std.proofs.Common.{◌≡◌, sym, refl, ap, ◌∙◌, arith}
+use Rattle.std.proofs.Common.{sym, ap, ◌∙◌, arith}
 use Rattle.mesh.specs.Causes.{mesh_of}
 use Rattle.refinement.specs.Tasks.{old_slot}
 use Rattle.refinement.proofs.Slots.{old_slot_below}

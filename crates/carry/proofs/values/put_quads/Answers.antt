@@ -1,4 +1,4 @@
-use Rattle.std.proofs.Common.{◌≡◌, ℕ, ◌+◌, ◌*◌, ◌<◌, sym, ◌∙◌, subst, arith, below_more}
+use Rattle.std.proofs.Common.{◌≡◌, ℕ, ◌+◌, ◌*◌, ◌<◌, ◌∙◌, subst, arith, below_more}
 use Rattle.mesh.specs.Mesh.{friend}
 use Rattle.refinement.specs.Tasks.{edge_slot, face_slot}
 use Rattle.tables.specs.Lent.{mesh}

@@ -1,4 +1,4 @@
-use Rattle.std.proofs.Common.{◌≡◌, ℕ, ◌+◌, ◌*◌, List, ap, ◌∙◌, arith, rules}
+use Rattle.std.proofs.Common.{ℕ, ◌*◌, List, ap, ◌∙◌, arith}
 use Rattle.mesh.specs.Causes.{mesh_of}
 use Rattle.tables.specs.Lent.{mesh}
 use Rattle.layout.specs.Layout.{laid}

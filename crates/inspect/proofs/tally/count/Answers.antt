@@ -1,7 +1,6 @@
 use Rattle.std.proofs.Common.{◌≡◌, ℕ, ◌+◌, ◌<◌, ◌≤◌, Bool, List, length, get_or, take, sym, refl, ap, ◌∙◌, subst, arith}
 use Rattle.std.proofs.lemmas.List.{length-take-le, take_all}
 use Rattle.inspect.specs.Marks.{how_many, one_if, is_smooth, is_semi_sharp, is_infinite, is_no_mark, Tallies}
-use Rattle.inspect.specs.declared.tally.Tally.{Tally}
 use Rattle.inspect.proofs.HowMany.{how_many_le, how_many_more}
 use Rattle.inspect.proofs.tally.count.Goals as goal
 

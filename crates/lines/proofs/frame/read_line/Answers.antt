@@ -1,7 +1,7 @@
 use Rattle.std.proofs.Common.{◌≡◌, ℕ, ◌-◌, ◌<◌, ◌≤◌, List, ◌∷◌, length, get_or, take, drop, sym, ap, ◌∙◌, subst, arith, rules, ltb-false, ltb-true}
 use Rattle.std.proofs.lemmas.List.{take_rest}
 use Rattle.std.proofs.lemmas.Slice.{first_rest}
-use Rattle.lines.specs.Lines.{Words, Line}
+use Rattle.lines.specs.Lines.{Words}
 use Rattle.lines.specs.Reading.{line}
 use Rattle.lines.proofs.Finds.{line_none, line_finds}
 use Rattle.lines.proofs.LineWords.{line_words, words_line, words_end}

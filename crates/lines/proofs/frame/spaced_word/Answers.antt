@@ -1,6 +1,6 @@
 use Rattle.std.proofs.Common.{◌≡◌, ℕ, ◌-◌, ◌<◌, List, ◌∷◌, length, get_or, take, drop, Some, None, Option, sym, ap, ◌∙◌, subst, arith, rules, ltb-false, MatchOption}
 use Rattle.std.proofs.lemmas.Slice.{first_rest}
-use Rattle.lines.specs.Lines.{Word, Spaced}
+use Rattle.lines.specs.Lines.{Word}
 use Rattle.lines.proofs.LineWords.{tails}
 use Rattle.lines.proofs.frame.spaced_word.Goals as goal
 

@@ -1,6 +1,6 @@
-use Rattle.std.proofs.Common.{◌≡◌, ℕ, sym, ap, ◌∙◌, arith}
+use Rattle.std.proofs.Common.{sym, ap, ◌∙◌}
 use Rattle.mesh.specs.Mesh.{Mesh}
-use Rattle.lines.specs.Reading.{lines, good, laid, mesh_read}
+use Rattle.lines.specs.Reading.{lines, laid, mesh_read}
 use Rattle.lines.proofs.Bodies.{accepted_from_rows}
 use Rattle.lines.proofs.reader.fill.Goals as goal
 

@@ -1,6 +1,6 @@
 use Rattle.std.proofs.Common.{◌≡◌, ℕ, ◌+◌, ◌*◌, ◌≤◌, List, [], length, take, drop, sym, refl, ap, ◌∙◌, arith}
 use Rattle.std.proofs.lemmas.List.{length-take-le, length-drop}
-use Rattle.lines.specs.Reading.{line, good, bad}
+use Rattle.lines.specs.Reading.{line}
 use Rattle.lines.proofs.Laying.{laid_none, laid_more, laid_at}
 use Rattle.lines.proofs.RowsRead.{sofar_none, sofar_more, sofar_bad, sofar_good}
 use Rattle.lines.proofs.reader.fill_quads.Goals as goal

@@ -1,5 +1,5 @@
-use Rattle.std.proofs.Common.{◌≡◌, ℕ, ◌+◌, List, [], length, sym, refl, ap, ◌∙◌, arith}
-use Rattle.lines.specs.Reading.{line, good, bad}
+use Rattle.std.proofs.Common.{◌≡◌, ℕ, ◌+◌, [], length, sym, refl, ap, ◌∙◌, arith}
+use Rattle.lines.specs.Reading.{line}
 use Rattle.lines.proofs.Laying.{laid_none, laid_more, laid_at}
 use Rattle.lines.proofs.RowsRead.{sofar_none, sofar_more, sofar_bad, sofar_good}
 use Rattle.lines.proofs.reader.fill_starts.Goals as goal

@@ -1,7 +1,7 @@
 use Rattle.std.proofs.Common.{◌≡◌, ℕ, ◌-◌, ◌≤◌, List, length, take, sym, refl, ap, ◌∙◌, arith, rules}
 use Rattle.std.proofs.lemmas.List.{length-take-le, places}
 use Rattle.lines.specs.Reading.{line}
-use Rattle.lines.proofs.RowsRead.{Sofar, sofar_none, sofar_more, sofar_bad, sofar_good}
+use Rattle.lines.proofs.RowsRead.{sofar_none, sofar_more, sofar_bad, sofar_good}
 use Rattle.lines.proofs.reader.judge_lines.Goals as goal
 
 pub loop-k-init : goal.loop-k-init

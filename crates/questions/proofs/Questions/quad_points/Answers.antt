@@ -1,9 +1,9 @@
-use Rattle.std.proofs.Common.{◌+◌, ◌*◌, ◌<◌, [], ◌∷◌, length, refl, arith}
+use Rattle.std.proofs.Common.{◌+◌, ◌*◌, [], ◌∷◌, refl, arith}
 use Rattle.mesh.specs.Causes.{mesh_of}
 use Rattle.mesh.specs.Mesh.{point}
 use Rattle.tables.specs.Lent.{mesh}
 use Rattle.questions.specs.Questions.{QuadIs}
-use Rattle.questions.proofs.Asks.{no_such, tells}
+use Rattle.questions.proofs.Asks.{tells}
 use Rattle.questions.proofs.Questions.quad_points.Goals as goal
 
 pub bounds-tables-q : goal.bounds-tables-q

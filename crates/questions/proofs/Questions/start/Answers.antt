@@ -1,4 +1,4 @@
-use Rattle.std.proofs.Common.{◌*◌, refl, arith}
+use Rattle.std.proofs.Common.{refl}
 use Rattle.mesh.specs.Causes.{mesh_of}
 use Rattle.bench.specs.Questions.{StartIs}
 use Rattle.questions.proofs.Asks.{no_such, tells}

@@ -1,8 +1,8 @@
-use Rattle.std.proofs.Common.{◌≡◌, ◌<◌, ◌≤◌, length, take, sym, refl, ap, ◌∙◌, subst, arith}
+use Rattle.std.proofs.Common.{◌≡◌, ◌<◌, ◌≤◌, length, take, ap, ◌∙◌, arith}
 use Rattle.std.proofs.lemmas.List.{length-take}
 use Rattle.chain.proofs.Runs.{through_made}
 use Rattle.bench.specs.Model.{state}
-use Rattle.requests.specs.Sessions.{Session, held_mark, plays, replies, told_reply}
+use Rattle.requests.specs.Sessions.{Session, held_mark, plays, replies}
 use Rattle.requests.specs.declared.request.Request.TheVariants.{Begin}
 use Rattle.requests.proofs.Through.{turn, kept, played, gave, same_front, plays_through}
 use Rattle.requests.proofs.perform.perform.Goals as goal

@@ -1,5 +1,4 @@
 use Rattle.std.proofs.Common.{◌≡◌, ℕ, [], ◌∷◌, length, refl, ap, ◌∙◌, arith}
-use Rattle.mesh.specs.Refusals.{number_of, place_of}
 use Rattle.lines.specs.Text.{line_text}
 use Rattle.text.specs.Writes.{frame_text}
 use Rattle.text.proofs.Writes.{length_line}

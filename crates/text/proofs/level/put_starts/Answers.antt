@@ -4,7 +4,7 @@ use Rattle.std.proofs.lemmas.List.{take_all}
 use Rattle.lines.specs.Text.{line_text, start_rows}
 use Rattle.text.specs.Put.{Put}
 use Rattle.text.proofs.LinesOf.{joined_next, joined_part, start_at, starts_count}
-use Rattle.text.proofs.Writes.{put_none, put_more, put_length}
+use Rattle.text.proofs.Writes.{put_none, put_more}
 use Rattle.text.proofs.level.put_starts.Goals as goal
 
 pub loop-start-init : goal.loop-start-init

@@ -5,7 +5,7 @@ use Rattle.lines.specs.Text.{line_text, quad_rows, start_rows, mesh_text}
 use Rattle.tables.specs.Lent.{mesh}
 use Rattle.tables.specs.declared.lent.Tables.{Tables}
 use Rattle.text.specs.Put.{Put}
-use Rattle.text.proofs.Sizes.{Sizes, sizes}
+use Rattle.text.proofs.Sizes.{sizes}
 use Rattle.text.proofs.Writes.{put_more}
 use Rattle.text.proofs.level.put_text.Goals as goal
 

@@ -1,8 +1,8 @@
-use Rattle.std.proofs.Common.{◌≡◌, ℕ, List, [], ◌∷◌, length, ap, arith}
+use Rattle.std.proofs.Common.{◌≡◌, ℕ, [], ◌∷◌, length, ap, arith}
 use Rattle.mesh.specs.Causes.{mesh_of}
 use Rattle.tables.specs.Lent.{mesh}
 use Rattle.text.proofs.LinesOf.{bytes, text_bytes}
-use Rattle.text.proofs.Sizes.{Sizes, sizes}
+use Rattle.text.proofs.Sizes.{sizes}
 use Rattle.text.proofs.level.text_size.Goals as goal
 
 pub overflow_cast-points : goal.overflow_cast-points

@@ -1,4 +1,4 @@
-use Rattle.std.proofs.Common.{◌≡◌, ℕ, ◌-◌, ◌*◌, take, subst, arith}
+use Rattle.std.proofs.Common.{◌≡◌, ◌-◌, ◌*◌, take, subst, arith}
 use Rattle.mesh.specs.Refusals.{told}
 use Rattle.chain.specs.Calls.{Call, load}
 use Rattle.chain.specs.Clauses.{Called}

@@ -1,12 +1,12 @@
-use Rattle.std.proofs.Common.{◌≡◌, ℕ, ◌*◌, ◌≤◌, length, Ok, Err, Result, sym, refl, ap, ◌∙◌, subst, arith}
+use Rattle.std.proofs.Common.{Err, Result, sym, ap, ◌∙◌, subst, arith}
 use Rattle.std.proofs.lemmas.Result.{err_from_is_err_and}
-use Rattle.lines.specs.Reading.{Reading, accepted, refused, reading, room, Holds}
+use Rattle.lines.specs.Reading.{Reading, reading, room, Holds}
 use Rattle.bench.specs.Model.{state}
 use Rattle.chain.specs.Calls.{load_text}
 use Rattle.chain.specs.Clauses.{Called}
 use Rattle.text.specs.Loads.{told_text, Loaded, Whose}
 use Rattle.text.specs.declared.load.TextFault.{TextFault}
-use Rattle.text.proofs.Texts.{WasRead, was_read, was_refused, unread, has_room, loaded, stands}
+use Rattle.text.proofs.Texts.{was_read, was_refused, unread, has_room, loaded, stands}
 use Rattle.text.proofs.load.load_text.Goals as goal
 
 pub returns-in-Err : goal.returns-in-Err

@@ -1,4 +1,4 @@
-use Rattle.std.proofs.Common.{ℕ, ◌+◌, ◌∷◌, sym, subst}
+use Rattle.std.proofs.Common.{ℕ, ◌+◌, ◌∷◌, subst}
 use Rattle.lines.specs.Text.{digits, word_text}
 use Rattle.text.specs.Put.{Put}
 use Rattle.text.proofs.Writes.{put_more}

@@ -1,8 +1,8 @@
-use Rattle.std.proofs.Common.{ℕ, ◌+◌, ◌≤◌, List, length, sym, ap, subst, arith}
+use Rattle.std.proofs.Common.{ℕ, ◌+◌, List, sym, subst, arith}
 use Rattle.std.proofs.lemmas.List.{take_all}
 use Rattle.lines.specs.Text.{words_text}
 use Rattle.text.specs.Put.{Put}
-use Rattle.text.proofs.Writes.{put_none, put_more, put_length, words_more, length_more, length_part}
+use Rattle.text.proofs.Writes.{put_none, put_more, words_more, length_more, length_part}
 use Rattle.text.proofs.put.put_words.Goals as goal
 
 pub loop-w-init : goal.loop-w-init

@@ -1,10 +1,9 @@
-use Rattle.std.proofs.Common.{◌≡◌, ◌+◌, ◌*◌, ◌<◌, ◌≤◌, sym, refl, ap, ◌∙◌, arith}
+use Rattle.std.proofs.Common.{refl, arith}
 use Rattle.mesh.specs.Causes.{mesh_of}
-use Rattle.mesh.specs.declared.fault.Fault.TheVariants.{NoSuchNumber}
 use Rattle.tables.specs.Lent.{mesh}
 use Rattle.bench.specs.Model.{state}
 use Rattle.bench.specs.Questions.{CountsAre}
-use Rattle.bench.proofs.Asks.{no_such, tells}
+use Rattle.bench.proofs.Asks.{tells}
 use Rattle.bench.proofs.bench.Bench.counts.Goals as goal
 
 pub overflow_cast-result-2 : goal.overflow_cast-result-2

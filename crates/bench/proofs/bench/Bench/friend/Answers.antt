@@ -1,4 +1,4 @@
-use Rattle.std.proofs.Common.{◌≡◌, ◌+◌, ◌*◌, ◌<◌, ◌≤◌, sym, refl, ap, ◌∙◌, arith}
+use Rattle.std.proofs.Common.{◌*◌, refl}
 use Rattle.mesh.specs.Causes.{mesh_of}
 use Rattle.mesh.specs.declared.fault.Fault.TheVariants.{NoSuchNumber}
 use Rattle.tables.specs.Lent.{mesh}

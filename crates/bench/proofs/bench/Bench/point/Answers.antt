@@ -1,4 +1,4 @@
-use Rattle.std.proofs.Common.{◌+◌, ◌*◌, ◌<◌, ◌≤◌, eqb, count_by, sym, refl, ap, ◌∙◌, arith}
+use Rattle.std.proofs.Common.{refl, arith}
 use Rattle.refinement.specs.Tasks.{point_task}
 use Rattle.chain.specs.Calls.{point as point_call}
 use Rattle.bench.specs.declared.stage.Stage.TheVariants.{Empty, Standing}

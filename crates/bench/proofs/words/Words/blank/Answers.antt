@@ -1,4 +1,4 @@
-use Rattle.std.proofs.Common.{◌≡◌, ℕ, ◌+◌, ◌-◌, length, replicate, ap, ◌∙◌, arith, rules}
+use Rattle.std.proofs.Common.{◌≡◌, ℕ, ◌+◌, ◌-◌, length, replicate, arith, rules}
 use Rattle.std.proofs.lemmas.List.{drop-drop, length-replicate}
 use Rattle.bench.proofs.words.Words.blank.Goals as goal
 

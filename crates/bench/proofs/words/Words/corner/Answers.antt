@@ -1,4 +1,4 @@
-use Rattle.std.proofs.Common.{◌+◌, ◌*◌, sym, arith}
+use Rattle.std.proofs.Common.{◌*◌, sym, arith}
 use Rattle.layout.proofs.Blocks.{getD_block}
 use Rattle.bench.proofs.words.Words.corner.Goals as goal
 

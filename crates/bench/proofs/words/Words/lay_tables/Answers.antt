@@ -1,4 +1,4 @@
-use Rattle.std.proofs.Common.{◌≡◌, ◌+◌, ◌*◌, ◌≤◌, length, ap, ◌∙◌, arith}
+use Rattle.std.proofs.Common.{◌*◌, arith}
 use Rattle.mesh.specs.Causes.{mesh_of}
 use Rattle.layout.proofs.Laid.{length_after_laid}
 use Rattle.bench.proofs.words.Words.lay_tables.Goals as goal

@@ -1,4 +1,4 @@
-use Rattle.std.proofs.Common.{◌+◌, ◌*◌, ◌<◌, length, arith}
+use Rattle.std.proofs.Common.{◌+◌, ◌*◌, arith}
 use Rattle.layout.specs.Layout.{block}
 use Rattle.layout.proofs.Blocks.{length_block}
 use Rattle.bench.proofs.Keeps.{count_fresh, count_again}

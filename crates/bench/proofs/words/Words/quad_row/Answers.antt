@@ -1,5 +1,5 @@
-use Rattle.std.proofs.Common.{sym, refl, ap, ◌∙◌}
-use Rattle.refinement.specs.Tasks.{old_slot, edge_slot}
+use Rattle.std.proofs.Common.{refl, ap, ◌∙◌}
+use Rattle.refinement.specs.Tasks.{edge_slot}
 use Rattle.refinement.proofs.Loops.{row_is}
 use Rattle.layout.specs.Layout.{standing_in}
 use Rattle.bench.proofs.Tasks.{slot_at}

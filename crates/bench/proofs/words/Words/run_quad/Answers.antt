@@ -1,4 +1,4 @@
-use Rattle.std.proofs.Common.{◌≡◌, ◌+◌, ◌*◌, ◌<◌, length, refl, ap, ◌∙◌, arith}
+use Rattle.std.proofs.Common.{◌+◌, ◌*◌, ◌<◌, refl, ap, ◌∙◌, arith}
 use Rattle.refinement.specs.Tasks.{fallen}
 use Rattle.bench.proofs.Tasks.{length_after, quad_writes}
 use Rattle.bench.proofs.words.Words.run_quad.Goals as goal

@@ -1,7 +1,7 @@
-use Rattle.std.proofs.Common.{◌≡◌, sym, refl, arith}
+use Rattle.std.proofs.Common.{sym, refl, arith}
 use Rattle.std.proofs.lemmas.Result.{err_from_is_err_and}
-use Rattle.mesh.specs.Causes.{mesh_of, once, all_met}
-use Rattle.mesh.specs.Refusals.{fine, declined}
+use Rattle.mesh.specs.Causes.{mesh_of, all_met}
+use Rattle.mesh.specs.Refusals.{fine}
 use Rattle.refinement.proofs.Causes.{once_on, once_fault}
 use Rattle.refinement.proofs.Tests.{fails, met_tells}
 use Rattle.tables.specs.Lent.{mesh}

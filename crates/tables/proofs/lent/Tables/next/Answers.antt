@@ -1,5 +1,4 @@
 use Rattle.std.proofs.Common.{arith}
-use Rattle.tables.specs.Lent.{mesh}
 use Rattle.tables.proofs.Reading.{corner_reads, step_by, friend_below}
 use Rattle.tables.proofs.lent.Tables.next.Goals as goal
 
