@@ -6,6 +6,8 @@ use mesh::number::{Point, Quad};
 use questions::Questions;
 use requests::perform::work;
 use requests::request::{Answer, Request};
+use std::alloc::Global;
+use std::process::Abort;
 use std::test::*;
 use tables::lent::Tables;
 
@@ -23,8 +25,8 @@ const PILLOW: Tables<'static> = Tables {
 };
 
 // A begin, the tasks by number, and a finish.
-fn forward(rt: &HostRuntime, quads: u32, points: u32) -> Result<Vec<Request>, Fail> {
-    let mut all = Vec::new(rt.alloc());
+fn forward(alloc: Global, quads: u32, points: u32) -> Result<Vec<Request>, Fail> {
+    let mut all = Vec::new(alloc);
     all.push(Request::Begin)?;
     for q in 0..quads {
         all.push(Request::RunQuad(Quad(q)))?;
@@ -37,8 +39,8 @@ fn forward(rt: &HostRuntime, quads: u32, points: u32) -> Result<Vec<Request>, Fa
 }
 
 // A begin, the tasks from the last to the first with every third again, and a finish; a finish that comes too early is refused.
-fn backward(rt: &HostRuntime, quads: u32, points: u32) -> Result<Vec<Request>, Fail> {
-    let mut all = Vec::new(rt.alloc());
+fn backward(alloc: Global, quads: u32, points: u32) -> Result<Vec<Request>, Fail> {
+    let mut all = Vec::new(alloc);
     all.push(Request::Begin)?;
     for v in (0..points).rev() {
         all.push(Request::RunPoint(Point(v)))?;
@@ -53,34 +55,34 @@ fn backward(rt: &HostRuntime, quads: u32, points: u32) -> Result<Vec<Request>, F
 }
 
 // Refines the standing level once by these requests.
-fn refined(rt: &HostRuntime, bench: &mut Bench<'_>, back: bool) -> Result<(u32, u32), Fail> {
+fn refined(alloc: Global, bench: &mut Bench<'_>, back: bool) -> Result<(u32, u32), Fail> {
     let (quads, points) = bench.counts(Level::Standing).unwrap_or((0, 0));
     let requests = if back {
-        backward(rt, quads, points)?
+        backward(alloc, quads, points)?
     } else {
-        forward(rt, quads, points)?
+        forward(alloc, quads, points)?
     };
-    let mut answers = vec![in rt.alloc(); Answer::Nothing; requests.len()]?;
+    let mut answers = vec![in alloc; Answer::Nothing; requests.len()]?;
     work(bench, &[], requests.as_slice(), answers.as_mut_slice());
     Ok(bench.counts(Level::Standing).unwrap_or((0, 0)))
 }
 
 // The words after four levels, whose counts are checked, and which are lawful.
-fn four_levels(rt: &HostRuntime, back: bool) -> Result<Vec<u32>, Fail> {
-    let mut words = vec![in rt.alloc(); 0u32; WORDS]?;
+fn four_levels(rt: &impl Abort, alloc: Global, back: bool) -> Result<Vec<u32>, Fail> {
+    let mut words = vec![in alloc; 0u32; WORDS]?;
     let mut bench = Bench::new(words.as_mut_slice(), 1);
-    assert!(bench.load(&PILLOW).is_ok());
+    assert!(rt; bench.load(&PILLOW).is_ok());
     for counts in [(8, 10), (32, 34), (128, 130), (512, 514)] {
-        assert_eq!(refined(rt, &mut bench, back)?, counts);
-        assert!(stands_lawful(&bench));
+        assert_eq!(rt; refined(alloc, &mut bench, back)?, counts);
+        assert!(rt; stands_lawful(&bench));
     }
     Ok(words)
 }
 
 #[test]
 fn four_levels_are_the_same_in_any_order(rt: HostRuntime) -> Result<(), Fail> {
-    let one = four_levels(&rt, false)?;
-    let other = four_levels(&rt, true)?;
+    let one = four_levels(&rt, rt.alloc(), false)?;
+    let other = four_levels(&rt, rt.alloc(), true)?;
     let mut checked = 0u32;
     for (a, b) in one.iter().zip(other.iter()).take(LAST) {
         assert_eq!(rt; *a, *b);

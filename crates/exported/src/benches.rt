@@ -83,8 +83,7 @@ fn found(answer: Result<(), Fault>, bench: &Bench<'_>) -> Found
 }
 
 // Loads a bench over these words from four tables, refines it so many times or until a refinement is refused, and copies what stands then to `out`.
-#[unsafe(no_mangle)]
-pub extern "C" fn mesh_refine<'a>(
+pub fn mesh_refine<'a>(
     words: &mut [u32],
     mark: u32,
     corners: &'a [u32],
@@ -122,8 +121,7 @@ fn load_and_write(
 }
 
 // Loads a bench over these words from four tables, and writes its text to the front of `out`.
-#[unsafe(no_mangle)]
-pub extern "C" fn mesh_write<'a>(
+pub fn mesh_write<'a>(
     words: &mut [u32],
     mark: u32,
     corners: &'a [u32],

@@ -12,7 +12,7 @@ use mesh::fault::Fault;
 use tables::lent::Tables;
 
 pub mod benches;
-pub mod carried;
+pub mod next_level;
 
 // The number and the place of a refusal; both are 0 where nothing is refused.
 #[repr(C)]
@@ -82,8 +82,7 @@ impl Refusal {
 }
 
 // Reads a text into four lent tables.
-#[unsafe(no_mangle)]
-pub extern "C" fn mesh_read(
+pub fn mesh_read(
     text: &[u8],
     corners: &mut [u32],
     friends: &mut [u32],
@@ -97,16 +96,14 @@ pub extern "C" fn mesh_read(
 }
 
 // Reads line 0 of a text.
-#[unsafe(no_mangle)]
-pub extern "C" fn mesh_read_counts(text: &[u8]) -> Found
+pub fn mesh_read_counts(text: &[u8]) -> Found
     ensures { result ≡ found_of (heading text.now) }
 {
     Found::of(read_counts(text))
 }
 
 // Judges whether four tables are a lawful mesh.
-#[unsafe(no_mangle)]
-pub extern "C" fn mesh_judge<'a>(
+pub fn mesh_judge<'a>(
     corners: &'a [u32],
     friends: &'a [u32],
     marks: &'a [u32],

@@ -95,8 +95,7 @@ fn work_rows(bench: &mut Bench<'_>, store: &[u32], rows: &[[u32; 6]], answers: &
 
 // Makes a bench over these words and asks it row by row, as many rows as there is room for answers; a slip that is still held then is withdrawn.
 // What stands at the end is copied to `out`.
-#[unsafe(no_mangle)]
-pub extern "C" fn mesh_work(
+pub fn mesh_work(
     words: &mut [u32],
     mark: u32,
     store: &[u32],

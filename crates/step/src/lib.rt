@@ -33,8 +33,7 @@ fn refuse(fault: Fault, output: &mut [u8]) -> usize
 }
 
 // A mesh text refined once: the count of bytes written to the front of the output, or 0 and nothing written where it is too short for the answer.
-#[unsafe(no_mangle)]
-pub extern "C" fn mesh_refine_step(input: &[u8], output: &mut [u8]) -> usize
+pub fn mesh_refine_step(input: &[u8], output: &mut [u8]) -> usize
     ensures { Answers output.old (step_text input.now) result output.new }
 {
     if input.len() > LONGEST_INPUT {

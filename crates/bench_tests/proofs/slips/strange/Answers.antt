@@ -6,6 +6,13 @@ use Rattle.requests.proofs.Fits.{Fits, settles}
 use Rattle.bench_tests.proofs.Closes.{opened, stays}
 use Rattle.bench_tests.proofs.slips.strange.Goals as goal
 
+-- the slip has come back twice, with the mark number that it had
+pub close-requires-2 : goal.close-requires-2
+close-requires-2 c =
+    let begun = c.in-Ok.ensures in
+    let same = c.in-Err-withdraw.ensures.slip ∙ c.in-Err.ensures.slip ∙ begun.slip in
+    settles (state c.begin.new.self) _ (opened _ _ _ begun.call (same ∙ sym (mark_is c.args.one.now)))
+
 pub close-requires-3 : goal.close-requires-3
 close-requires-3 c =
     let m = c.in-Ok-begin.own.mark in

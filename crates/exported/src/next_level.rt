@@ -19,8 +19,7 @@ use carry::lent::{corners as carry_corners, values as carry_values};
 use tables::lent::Tables;
 
 // Coordinates on points.
-#[unsafe(no_mangle)]
-pub extern "C" fn mesh_values_coordinates<'a>(
+pub fn mesh_values_coordinates<'a>(
     corners: &'a [u32],
     friends: &'a [u32],
     marks: &'a [u32],
@@ -41,8 +40,7 @@ pub extern "C" fn mesh_values_coordinates<'a>(
 }
 
 // Influences on points.
-#[unsafe(no_mangle)]
-pub extern "C" fn mesh_values_influences<'a>(
+pub fn mesh_values_influences<'a>(
     corners: &'a [u32],
     friends: &'a [u32],
     marks: &'a [u32],
@@ -63,8 +61,7 @@ pub extern "C" fn mesh_values_influences<'a>(
 }
 
 // Texture pairs on corners.
-#[unsafe(no_mangle)]
-pub extern "C" fn mesh_corners_textures<'a>(
+pub fn mesh_corners_textures<'a>(
     corners: &'a [u32],
     friends: &'a [u32],
     marks: &'a [u32],
@@ -85,8 +82,7 @@ pub extern "C" fn mesh_corners_textures<'a>(
 }
 
 // Colours on corners.
-#[unsafe(no_mangle)]
-pub extern "C" fn mesh_corners_colours<'a>(
+pub fn mesh_corners_colours<'a>(
     corners: &'a [u32],
     friends: &'a [u32],
     marks: &'a [u32],

@@ -1,0 +1,174 @@
+// The calls of `exported` and `exported_work`, for a program in Rust or C that compares the built code with an implementation of its own.
+#![tactic(auto)]
+
+ghost use Rattle.attributes.specs.Colours.{middle_of as colour_middle, row_of as colour_row, verdict_of as colour_verdict};
+ghost use Rattle.attributes.specs.Coordinates.{blend_of, row_of as coordinates_row, verdict_of as coordinates_verdict};
+ghost use Rattle.attributes.specs.Influences.{row_of as influence_row, union, verdict_of as influence_verdict};
+ghost use Rattle.attributes.specs.Textures.{middle_of as texture_middle, row_of as texture_row, verdict_of as texture_verdict};
+ghost use Rattle.carried.specs.Blends.{values as values_of};
+ghost use Rattle.carried.specs.Corners.{corners as corners_of};
+ghost use Rattle.carry.specs.Rows.{corners_refusal, made as values_made, values_refusal};
+ghost use Rattle.chain.specs.Calls.{made};
+ghost use Rattle.chain.specs.Clauses.{run_on};
+ghost use Rattle.exported.specs.Answers.{Becomes, found_of, refusal_of};
+ghost use Rattle.exported.specs.Benches.{copied, found_at, refine_standing, refine_verdict, write_verdict, written_of};
+ghost use Rattle.exported_work.specs.Works.{numbers_of, over, requests_of};
+ghost use Rattle.lines.specs.Reading.{Holds, answer, heading, reading, room};
+ghost use Rattle.lines.specs.Text.{mesh_text};
+ghost use Rattle.mesh.specs.Causes.{judge, mesh_of};
+ghost use Rattle.requests.specs.Sessions.{all_calls, replies};
+ghost use Rattle.std.specs.Prelude.{◌≡◌, ◌++◌, None as nothing, drop, length, map};
+
+use exported::{Found, Refusal, Written};
+
+// Reads a text into four lent tables.
+#[unsafe(no_mangle)]
+pub extern "C" fn mesh_read(
+    text: &[u8],
+    corners: &mut [u32],
+    friends: &mut [u32],
+    marks: &mut [u32],
+    starts: &mut [u32],
+) -> Found
+    ensures answer { result ≡ found_of (answer (reading text.now (room corners.old friends.old marks.old starts.old))) }
+    ensures tables { Holds (reading text.now (room corners.old friends.old marks.old starts.old)) corners.old friends.old marks.old starts.old corners.new friends.new marks.new starts.new }
+{
+    exported::mesh_read(text, corners, friends, marks, starts)
+}
+
+// Reads line 0 of a text.
+#[unsafe(no_mangle)]
+pub extern "C" fn mesh_read_counts(text: &[u8]) -> Found
+    ensures { result ≡ found_of (heading text.now) }
+{
+    exported::mesh_read_counts(text)
+}
+
+// Judges whether four tables are a lawful mesh.
+#[unsafe(no_mangle)]
+pub extern "C" fn mesh_judge(
+    corners: &[u32],
+    friends: &[u32],
+    marks: &[u32],
+    starts: &[u32],
+) -> Refusal
+    ensures { result ≡ refusal_of (judge (mesh_of corners.now friends.now marks.now starts.now)) }
+{
+    exported::mesh_judge(corners, friends, marks, starts)
+}
+
+// Loads a bench over these words from four tables, refines it so many times or until a refinement is refused, and copies what stands then to `out`.
+#[unsafe(no_mangle)]
+pub extern "C" fn mesh_refine(
+    words: &mut [u32],
+    mark: u32,
+    corners: &[u32],
+    friends: &[u32],
+    marks: &[u32],
+    starts: &[u32],
+    levels: u32,
+    out: &mut [u32],
+) -> Found
+    ensures answer { result ≡ found_at (refine_verdict (length words.old) mark (mesh_of corners.now friends.now marks.now starts.now) levels) (refine_standing (length words.old) mark (mesh_of corners.now friends.now marks.now starts.now) levels) }
+    ensures level { out.new ≡ copied (refine_standing (length words.old) mark (mesh_of corners.now friends.now marks.now starts.now) levels) out.old }
+{
+    exported::benches::mesh_refine(words, mark, corners, friends, marks, starts, levels, out)
+}
+
+// Loads a bench over these words from four tables, and writes its text to the front of `out`.
+#[unsafe(no_mangle)]
+pub extern "C" fn mesh_write(
+    words: &mut [u32],
+    mark: u32,
+    corners: &[u32],
+    friends: &[u32],
+    marks: &[u32],
+    starts: &[u32],
+    out: &mut [u8],
+) -> Written
+    ensures answer { result ≡ written_of (write_verdict (made (length words.old) mark) (mesh_of corners.now friends.now marks.now starts.now) (length out.old)) (length (mesh_text (mesh_of corners.now friends.now marks.now starts.now))) }
+    ensures text { Becomes (write_verdict (made (length words.old) mark) (mesh_of corners.now friends.now marks.now starts.now) (length out.old)) out.old (mesh_text (mesh_of corners.now friends.now marks.now starts.now) ++ drop (length (mesh_text (mesh_of corners.now friends.now marks.now starts.now))) out.old) out.new }
+{
+    exported::benches::mesh_write(words, mark, corners, friends, marks, starts, out)
+}
+
+// Coordinates on points.
+#[unsafe(no_mangle)]
+pub extern "C" fn mesh_values_coordinates(
+    corners: &[u32],
+    friends: &[u32],
+    marks: &[u32],
+    starts: &[u32],
+    rows: &[[i32; 3]],
+    out: &mut [[i32; 3]],
+) -> Refusal
+    ensures answer { result ≡ refusal_of (values_refusal coordinates_verdict (mesh_of corners.now friends.now marks.now starts.now) rows.now (length out.old)) }
+    ensures written { Becomes (values_refusal coordinates_verdict (mesh_of corners.now friends.now marks.now starts.now) rows.now (length out.old)) out.old (map coordinates_row (values_of blend_of (mesh_of corners.now friends.now marks.now starts.now) (values_made coordinates_verdict rows.now))) out.new }
+{
+    exported::next_level::mesh_values_coordinates(corners, friends, marks, starts, rows, out)
+}
+
+// Influences on points.
+#[unsafe(no_mangle)]
+pub extern "C" fn mesh_values_influences(
+    corners: &[u32],
+    friends: &[u32],
+    marks: &[u32],
+    starts: &[u32],
+    rows: &[u64],
+    out: &mut [u64],
+) -> Refusal
+    ensures answer { result ≡ refusal_of (values_refusal influence_verdict (mesh_of corners.now friends.now marks.now starts.now) rows.now (length out.old)) }
+    ensures written { Becomes (values_refusal influence_verdict (mesh_of corners.now friends.now marks.now starts.now) rows.now (length out.old)) out.old (map influence_row (values_of union (mesh_of corners.now friends.now marks.now starts.now) (values_made influence_verdict rows.now))) out.new }
+{
+    exported::next_level::mesh_values_influences(corners, friends, marks, starts, rows, out)
+}
+
+// Texture pairs on corners.
+#[unsafe(no_mangle)]
+pub extern "C" fn mesh_corners_textures(
+    corners: &[u32],
+    friends: &[u32],
+    marks: &[u32],
+    starts: &[u32],
+    rows: &[[f32; 2]],
+    out: &mut [[f32; 2]],
+) -> Refusal
+    ensures answer { result ≡ refusal_of (corners_refusal texture_verdict (mesh_of corners.now friends.now marks.now starts.now) rows.now (length out.old)) }
+    ensures written { Becomes (corners_refusal texture_verdict (mesh_of corners.now friends.now marks.now starts.now) rows.now (length out.old)) out.old (map texture_row (corners_of texture_middle (values_made texture_verdict rows.now))) out.new }
+{
+    exported::next_level::mesh_corners_textures(corners, friends, marks, starts, rows, out)
+}
+
+// Colours on corners.
+#[unsafe(no_mangle)]
+pub extern "C" fn mesh_corners_colours(
+    corners: &[u32],
+    friends: &[u32],
+    marks: &[u32],
+    starts: &[u32],
+    rows: &[[u8; 3]],
+    out: &mut [[u8; 3]],
+) -> Refusal
+    ensures answer { result ≡ refusal_of (corners_refusal colour_verdict (mesh_of corners.now friends.now marks.now starts.now) rows.now (length out.old)) }
+    ensures written { Becomes (corners_refusal colour_verdict (mesh_of corners.now friends.now marks.now starts.now) rows.now (length out.old)) out.old (map colour_row (corners_of colour_middle (values_made colour_verdict rows.now))) out.new }
+{
+    exported::next_level::mesh_corners_colours(corners, friends, marks, starts, rows, out)
+}
+
+// Makes a bench over these words and asks it row by row, as many rows as there is room for answers; a slip that is still held then is withdrawn.
+// What stands at the end is copied to `out`.
+#[unsafe(no_mangle)]
+pub extern "C" fn mesh_work(
+    words: &mut [u32],
+    mark: u32,
+    store: &[u32],
+    rows: &[[u32; 6]],
+    answers: &mut [[u32; 3]],
+    out: &mut [u32],
+)
+    ensures gave { answers.new ≡ over (map numbers_of (replies store.now (record { bench = made (length words.old) mark; held = nothing }) (requests_of (length answers.old) rows.now))) answers.old }
+    ensures level { out.new ≡ copied (run_on (made (length words.old) mark) (all_calls store.now (made (length words.old) mark) (requests_of (length answers.old) rows.now))).standing out.old }
+{
+    exported_work::mesh_work(words, mark, store, rows, answers, out);
+}
