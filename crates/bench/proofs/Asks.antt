@@ -3,7 +3,7 @@ use Rattle.std.proofs.Common.{◌≡◌, ℕ, ◌+◌, ◌*◌, ◌/◌, ◌<◌
 use mathlib.Core.Logic.{∥∥₁_elim}
 use mathlib.Core.HLevel.{⊥_prop}
 use Rattle.std.proofs.lemmas.Bool.{cond-true, cond-false, le-leb, lt-leb, cases_lt, cases_eq}
-use Rattle.std.specs.List.{ContainsAt as Has, AllByRecursion as All}
+use Rattle.std.specs.List.{ContainsAt as Has, AllByRecursion}
 use Rattle.std.proofs.ByRecursion.{all-has}
 use Rattle.mesh.specs.Causes.{mesh_of}
 use Rattle.mesh.specs.Marks.{MarkWord}
@@ -57,7 +57,7 @@ lawful_mark : (m : Mesh) → ∥ Lawful m ∥₁ → (o : ℕ) → o < 2 * m.qua
 lawful_mark m h o k = not_not_mark (mark m o) (λ n. ∥∥₁_elim h ⊥_prop (λ w. n (w.sound.marks_are_words o k)))
 
 -- a mark of a level in work is that of the refined level, or 0
-work_mark : (m : Mesh) → Lawful m → 4 * m.quads ≤ most_quads → (ts : List Task) → All (TaskOf m) ts → (o : ℕ) → o < 8 * m.quads →
+work_mark : (m : Mesh) → Lawful m → 4 * m.quads ≤ most_quads → (ts : List Task) → AllByRecursion (TaskOf m) ts → (o : ℕ) → o < 8 * m.quads →
     (MarkWord (mark (runs m ts (blank m)) o) → ⊥) → ⊥
 work_mark m w few ts a o h n =
     let made = (any_list_of_tasks m w ts a).of_marks o h in

@@ -1,6 +1,6 @@
 -- Values that are carried along stay in range.
 use Rattle.std.proofs.Common.{◌≡◌, ℕ, zero, suc, ◌+◌, ◌*◌, ◌<◌, ◌≤◌, ltb, List, [], ◌∷◌, length, get_or, sym, refl, ap, ◌∙◌, arith}
-use Rattle.std.specs.List.{AllByRecursion as All}
+use Rattle.std.specs.List.{AllByRecursion}
 use Rattle.std.proofs.lemmas.List.FromFn.{get_or-map-range_with_len, length-map-range_with_len}
 use Rattle.std.proofs.ByRecursion.{All-get_or, all_kept_by}
 use Rattle.std.proofs.lemmas.List.{get_or_default, same_lists}
@@ -20,12 +20,12 @@ module _ {V : Type 0} where
   values_total d xs [] = refl
   values_total d xs (p ∷ ps) = ap (λ n. p.1 + n) (values_total d xs ps)
 
-  values_each : (P : V → Type 0) (d : V) (xs : List V) → All P xs → (ps : List (ℕ × ℕ)) → All (λ p. p.0 < length xs) ps → Each P (values_at d xs ps)
+  values_each : (P : V → Type 0) (d : V) (xs : List V) → AllByRecursion P xs → (ps : List (ℕ × ℕ)) → AllByRecursion (λ p. p.0 < length xs) ps → Each P (values_at d xs ps)
   values_each P d xs a [] h = tt
   values_each P d xs a (p ∷ ps) h = (All-get_or P xs p.0 d h.0 a, values_each P d xs a ps h.1)
 
   -- past the end of the list no part reads
-  values_same : (d e : V) (xs : List V) (ps : List (ℕ × ℕ)) → All (λ (p : ℕ × ℕ). p.0 < length xs) ps → values_at d xs ps ≡ values_at e xs ps
+  values_same : (d e : V) (xs : List V) (ps : List (ℕ × ℕ)) → AllByRecursion (λ (p : ℕ × ℕ). p.0 < length xs) ps → values_at d xs ps ≡ values_at e xs ps
   values_same d e xs [] h = refl
   values_same d e xs (p ∷ ps) h = λ i. (get_or_default xs p.0 d e h.0 i, p.1) ∷ values_same d e xs ps h.1 i
 
@@ -70,7 +70,7 @@ module _ {V : Type 0} where
   module _ {R : Type 0} (lies : R → V → Type 0) (blended : List (V × ℕ) → V)
       (keeps : (b : R) (ps : List (V × ℕ)) → 0 < total ps → total ps ≤ most_weight → Each (lies b) ps → lies b (blended ps)) where
     -- one level on
-    pub values_lie : (m : Mesh) → Lawful m → (xs : List V) → length xs ≡ m.points → (b : R) → All (lies b) xs → All (lies b) (values blended m xs)
+    pub values_lie : (m : Mesh) → Lawful m → (xs : List V) → length xs ≡ m.points → (b : R) → AllByRecursion (lies b) xs → AllByRecursion (lies b) (values blended m xs)
     unfolding values
     values_lie m w xs n b a =
         all_counting (lies b) (λ s. blended (values_at (blended []) xs (taken (parts m s)))) 0 (m.points + 3 * m.quads)

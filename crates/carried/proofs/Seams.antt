@@ -1,6 +1,6 @@
 -- Corner values: what each new corner has, and that seams which met still meet.
 use Rattle.std.proofs.Common.{◌≡◌, ℕ, zero, suc, ◌+◌, ◌-◌, ◌*◌, ◌/◌, ◌^◌, ◌<◌, ◌≤◌, List, [], ◌∷◌, length, get_or, sym, refl, ap, ◌∙◌, arith}
-use Rattle.std.specs.List.{AllByRecursion as All}
+use Rattle.std.specs.List.{AllByRecursion}
 use Rattle.std.proofs.ByRecursion.{All-weaker}
 use Rattle.std.proofs.lemmas.List.{get_or_append_left, get_or-append-add, same_lists}
 use Rattle.mesh.specs.Mesh.{Mesh, Lawful, friend, begins, ends, most_quads}
@@ -218,8 +218,8 @@ module _ {V : Type 0} (like : V → V → Type 0) (middle : V → V → V) (laws
             (laws.itself _);
       }
 
-  pub halves_alike : (os : List ℕ) → All (λ o. (o < 2 * m.quads) × Alike like m xs o) os →
-      All (λ o. (o < 2 * (refine m).quads) × Alike like (refine m) (corners middle xs) o) (halves m os)
+  pub halves_alike : (os : List ℕ) → AllByRecursion (λ o. (o < 2 * m.quads) × Alike like m xs o) os →
+      AllByRecursion (λ o. (o < 2 * (refine m).quads) × Alike like (refine m) (corners middle xs) o) (halves m os)
   unfolding halves
   halves_alike [] h = tt
   halves_alike (o ∷ os) h =
@@ -249,7 +249,7 @@ module _ {V : Type 0} (middle : V → V → V) (m : Mesh) (w : Lawful m) where
   module _ (like : V → V → Type 0) (laws : Likeness like middle) where
     module _ (j : ℕ) (xs : List V) (count : length xs ≡ 4 * (level m j).quads) where
       alike : (o : ℕ) → o < 2 * (level m j).quads → Alike like (level m j) xs o → (i : ℕ) → 4 ^ (j + i) * m.quads ≤ most_quads →
-          All (λ p. (p < 2 * (level m (j + i)).quads) × Alike like (level m (j + i)) (corners_carried middle xs i) p) (pieces m j o i)
+          AllByRecursion (λ p. (p < 2 * (level m (j + i)).quads) × Alike like (level m (j + i)) (corners_carried middle xs i) p) (pieces m j o i)
       unfolding corners_carried level pieces
       alike o h a zero s = let e : j + 0 ≡ j = omega arith in rw e ((h, a), tt)
       alike o h a (suc i) s =
@@ -258,16 +258,16 @@ module _ {V : Type 0} (middle : V → V → V) (m : Mesh) (w : Lawful m) where
           rw e (halves_alike like middle laws (level m (j + i)) (lawful_at m w (j + i) t) (corners_carried middle xs i) (many j xs count i t) (pieces m j o i) (alike o h a i t))
 
       first_alike : (o : ℕ) → o < 2 * (level m j).quads → Alike like (level m j) xs o → (i : ℕ) → 4 ^ (j + i) * m.quads ≤ most_quads →
-          All (Alike like (level m (j + i)) (corners_carried middle xs i)) (pieces m j o i)
+          AllByRecursion (Alike like (level m (j + i)) (corners_carried middle xs i)) (pieces m j o i)
       first_alike o h a i s = All-weaker _ _ (λ p g. g.1) _ (alike o h a i s)
 
     pieces_alike : (j : ℕ) (xs : List V) (count : length xs ≡ 4 * (level m j).quads) (k o : ℕ) → o < 2 * (level m (j + k)).quads → Alike like (level m (j + k)) (corners_carried middle xs k) o →
-        (i : ℕ) → 4 ^ (j + k + i) * m.quads ≤ most_quads → All (Alike like (level m (j + k + i)) (corners_carried middle xs (k + i))) (pieces m (j + k) o i)
+        (i : ℕ) → 4 ^ (j + k + i) * m.quads ≤ most_quads → AllByRecursion (Alike like (level m (j + k + i)) (corners_carried middle xs (k + i))) (pieces m (j + k) o i)
     pieces_alike j xs count k o h a i s =
         rw (carried_on xs k i) at (first_alike (j + k) (corners_carried middle xs k) (many j xs count k (earlier_by m (j + k) i s)) o h a i s)
 
     insides_alike : (j : ℕ) (xs : List V) (count : length xs ≡ 4 * (level m j).quads) (k c : ℕ) → 2 * c < 2 * (level m (j + suc k)).quads → (i : ℕ) → 4 ^ (j + suc k + i) * m.quads ≤ most_quads →
-        All (Alike like (level m (j + suc k + i)) (corners_carried middle xs (suc k + i))) (pieces m (j + suc k) (2 * c) i)
+        AllByRecursion (Alike like (level m (j + suc k + i)) (corners_carried middle xs (suc k + i))) (pieces m (j + suc k) (2 * c) i)
     unfolding corners_carried level
     insides_alike j xs count k c h i s =
         let t = earlier_by m (j + suc k) i s in

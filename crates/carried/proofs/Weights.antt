@@ -1,6 +1,6 @@
 -- The weights of parts, and which slots they name.
 use Rattle.std.proofs.Common.{◌≡◌, ℕ, zero, suc, ◌+◌, ◌-◌, ◌*◌, ◌/◌, ◌%◌, ◌<◌, ◌≤◌, min, Bool, eqb, ltb, List, [], ◌∷◌, map, length, get_or, sym, refl, ap, ◌∙◌, inl, inr, mul_assoc, mul_comm, add-mul, mul-le-mul, mul-add, arith}
-use Rattle.std.specs.List.{range_with_len, flat_map, AllByRecursion as All}
+use Rattle.std.specs.List.{range_with_len, flat_map, AllByRecursion}
 use Rattle.std.proofs.lemmas.List.FromFn.{length-map-range_with_len}
 use Rattle.std.proofs.lemmas.List.Sums.{length-filter, count_by-le-length}
 use Rattle.std.proofs.ByRecursion.{All-append, All-map, all_kept_by, All-weaker}
@@ -87,7 +87,7 @@ pub total_round : (m : Mesh) (cs : List ℕ) → total (flat_map (λ c. (point m
 total_round m [] = omega arith
 total_round m (c ∷ cs) = let r = total_round m cs in omega arith
 
-pub all_counting : {X : Type 0} (P : X → Type 0) (f : ℕ → X) (a n : ℕ) → ((s : ℕ) → s < a + n → P (f s)) → All P (map f (range_with_len a n))
+pub all_counting : {X : Type 0} (P : X → Type 0) (f : ℕ → X) (a n : ℕ) → ((s : ℕ) → s < a + n → P (f s)) → AllByRecursion P (map f (range_with_len a n))
 all_counting P f a zero h = tt
 all_counting P f a (suc n) h = (h a (omega arith), all_counting P f (a + 1) n (λ s l. h s (omega arith)))
 
@@ -199,11 +199,11 @@ module _ (m : Mesh) (w : Lawful m) where
   on : (c : ℕ) → c < 4 * m.quads → point m c < m.points
   on = w.sound.corners_have_points
 
-  face_names : (q : ℕ) → q < m.quads → All (Named m) (face m q)
+  face_names : (q : ℕ) → q < m.quads → AllByRecursion (Named m) (face m q)
   unfolding face
   face_names q h = (on (4 * q) (omega arith), (on (4 * q + 1) (omega arith), (on (4 * q + 2) (omega arith), (on (4 * q + 3) (omega arith), tt))))
 
-  edge_names : (o : ℕ) → o < 2 * m.quads → All (Named m) (edge m o)
+  edge_names : (o : ℕ) → o < 2 * m.quads → AllByRecursion (Named m) (edge m o)
   unfolding edge begins
   edge_names o h =
       let F = m.quads in
@@ -222,26 +222,26 @@ module _ (m : Mesh) (w : Lawful m) where
       )
 
   module _ (v : ℕ) (h : v < m.points) where
-    around_below : All (λ c. c < 4 * m.quads) (around m v)
+    around_below : AllByRecursion (λ c. c < 4 * m.quads) (around m v)
     unfolding around
     around_below = all_counting (λ c. c < 4 * m.quads) (walk m v) 0 (valence m v) (λ i l. walk_below m w.sound v i h)
 
-    round_names : (cs : List ℕ) → All (λ c. c < 4 * m.quads) cs → All (Named m) (flat_map (λ c. (point m (other_end c), 6) ∷ (point m (diagonal c), 1) ∷ []) cs)
+    round_names : (cs : List ℕ) → AllByRecursion (λ c. c < 4 * m.quads) cs → AllByRecursion (Named m) (flat_map (λ c. (point m (other_end c), 6) ∷ (point m (diagonal c), 1) ∷ []) cs)
     round_names [] k = tt
     round_names (c ∷ cs) k = (on (other_end c) (other_end_below c m.quads k.0), (on (diagonal c) (diagonal_below c m.quads k.0), round_names cs k.1))
 
-    smooth_names : All (Named m) (smooth m v)
+    smooth_names : AllByRecursion (Named m) (smooth m v)
     unfolding smooth
     smooth_names = (h, round_names (around m v) around_below)
 
-    marked_below : All (λ c. c < 4 * m.quads) (marked m v)
+    marked_below : AllByRecursion (λ c. c < 4 * m.quads) (marked m v)
     unfolding marked
     marked_below = all_kept_by (λ c. ltb 0 (mark m (off_edge c))) (λ c. c < 4 * m.quads) (around m v) around_below
 
-    times_names : (k : ℕ) → All (Named m) (times k (smooth m v))
+    times_names : (k : ℕ) → AllByRecursion (Named m) (times k (smooth m v))
     times_names k = All-map (Named m) (λ p. (p.0, k * p.1)) (smooth m v) smooth_names
 
-    creased_names : All (Named m) (creased m v)
+    creased_names : AllByRecursion (Named m) (creased m v)
     unfolding creased
     creased_names =
         All-append (Named m) (times (8 * (512 - sharpness m v)) (smooth m v)) _ (times_names (8 * (512 - sharpness m v))) (
@@ -250,16 +250,16 @@ module _ (m : Mesh) (w : Lawful m) where
               (All-weaker _ _ (λ c l. on (other_end c) (other_end_below c m.quads l)) (marked m v) marked_below),
         )
 
-    cornered_names : All (Named m) (cornered m v)
+    cornered_names : AllByRecursion (Named m) (cornered m v)
     unfolding cornered
     cornered_names =
         All-append (Named m) (times (256 * length (marked m v) - sharpness m v) (smooth m v)) _ (times_names (256 * length (marked m v) - sharpness m v)) (h, tt)
 
-    moved_names : All (Named m) (moved m v)
-    moved_names = by_marks m v (w.sound.walks_not_short v h) (All (Named m)) (λ l. smooth_names) (λ l. creased_names) (λ l. cornered_names)
+    moved_names : AllByRecursion (Named m) (moved m v)
+    moved_names = by_marks m v (w.sound.walks_not_short v h) (AllByRecursion (Named m)) (λ l. smooth_names) (λ l. creased_names) (λ l. cornered_names)
 
   -- ---- the parts of each kind fit
-  fits : (ps : List (ℕ × ℕ)) → All (Named m) ps → 0 < total ps → total ps ≤ most_weight → Fit m ps
+  fits : (ps : List (ℕ × ℕ)) → AllByRecursion (Named m) ps → 0 < total ps → total ps ≤ most_weight → Fit m ps
   fits ps a b c =
       let e = total_taken ps in
       record { name_points = a; some_left = left_over (taken ps) (omega arith); some_weight = omega arith; few = omega arith }

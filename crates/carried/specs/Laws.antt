@@ -1,6 +1,6 @@
 -- The laws of values that are carried along refinement.
 use Rattle.std.specs.Prelude.{◌≡◌, ℕ, suc, ◌+◌, ◌*◌, ◌^◌, ◌<◌, ◌≤◌, Bool, true, List, length}
-use Rattle.std.specs.List.{AllByRecursion as All}
+use Rattle.std.specs.List.{AllByRecursion}
 use Rattle.mesh.specs.Mesh.{Mesh, Lawful, most_quads}
 use Rattle.refinement.specs.Tasks.{level}
 use Rattle.kinds.specs.Likeness.{Likeness}
@@ -10,7 +10,7 @@ use Rattle.carried.specs.Corners.{corners, Middles, corners_carried, Alike, piec
 
 -- parts that can be blended: each names a point, one or more are left, and their weights are not too much
 pub record Fit (m : Mesh) (ps : List (ℕ × ℕ)) : Type 0 where
-  pub name_points : All (λ p. p.0 < m.points) ps
+  pub name_points : AllByRecursion (λ p. p.0 < m.points) ps
   pub some_left : 0 < length (taken ps)
   pub some_weight : 0 < total (taken ps)
   pub few : total (taken ps) ≤ most_weight
@@ -46,7 +46,7 @@ Allowed m k = 4 ^ k * m.quads ≤ most_quads
 -- ys, the values of level k, lie in every range that held all of the values xs
 pub record Stays {V R : Type 0} (lies : R → V → Type 0) (m : Mesh) (k : ℕ) (xs ys : List V) : Type 0 where
   pub as_many : length ys ≡ (level m k).points
-  pub in_range : (b : R) → All (lies b) xs → All (lies b) ys
+  pub in_range : (b : R) → AllByRecursion (lies b) xs → AllByRecursion (lies b) ys
 
 -- values carried from any list for level j stay in range up to each level that is near
 abbrev pub ValuesStay : {V R : Type 0} → (R → V → Type 0) → (List (V × ℕ) → V) → Mesh → (ℕ → Type 0) → Type 0
@@ -64,11 +64,11 @@ pub record SeamsMeet {V : Type 0} (like : V → V → Type 0) (middle : V → V 
   pub pieces-meet :
       (k o : ℕ) → o < 2 * (level m (j + k)).quads → Alike like (level m (j + k)) (corners_carried middle xs k) o →
       (i : ℕ) → Near (j + k + i) →
-      All (Alike like (level m (j + k + i)) (corners_carried middle xs (k + i))) (pieces m (j + k) o i)
+      AllByRecursion (Alike like (level m (j + k + i)) (corners_carried middle xs (k + i))) (pieces m (j + k) o i)
   pub insides_meet :
       (k c : ℕ) → 2 * c < 2 * (level m (j + suc k)).quads →
       (i : ℕ) → Near (j + suc k + i) →
-      All (Alike like (level m (j + suc k + i)) (corners_carried middle xs (suc k + i))) (pieces m (j + suc k) (2 * c) i)
+      AllByRecursion (Alike like (level m (j + suc k + i)) (corners_carried middle xs (suc k + i))) (pieces m (j + suc k) (2 * c) i)
 
 -- so from any list for any level
 abbrev pub SeamsStay : {V : Type 0} → (V → V → Type 0) → (V → V → V) → Mesh → (ℕ → Type 0) → Type 0

@@ -1,6 +1,6 @@
 -- One call keeps ranges and seams.
 use Rattle.std.proofs.Common.{◌≡◌, ℕ, ◌+◌, ◌*◌, ◌<◌, ◌≤◌, List, [], ◌∷◌, ◌++◌, map, IfOk, Ok, Err, Result, sym, refl, ap, ◌∙◌, subst, MatchResult}
-use Rattle.std.specs.List.{AllByRecursion as All}
+use Rattle.std.specs.List.{AllByRecursion}
 use Rattle.std.proofs.ByRecursion.{All-weaker}
 use Rattle.mesh.specs.Mesh.{Mesh, Lawful}
 use Rattle.mesh.specs.Refusals.{told}
@@ -32,7 +32,7 @@ module _ {V R : Type 0} (verdict : R → Result V ℕ) (row : V → R) (again : 
       range_kept (Ok x) t e =
           let a = accepted verdict m.quads m.points (m.points + 3 * m.quads) rows room t in
           let count = length_made verdict rows a.all ∙ a.count in
-          λ b h. subst (All (lies b)) (sym (ap (made verdict) e ∙ made_again (values blended m (made verdict rows)))) (values_lie lies blended keeps m w (made verdict rows) count b h)
+          λ b h. subst (AllByRecursion (lies b)) (sym (ap (made verdict) e ∙ made_again (values blended m (made verdict rows)))) (values_lie lies blended keeps m w (made verdict rows) count b h)
 
     -- corner values
     module _ {A : Type 0} (middle : V → V → V) (even : (a b : V) → middle a b ≡ middle b a) where
@@ -46,6 +46,6 @@ module _ {V R : Type 0} (verdict : R → Result V ℕ) (row : V → R) (again : 
           let laws = equals middle even in
           let back : corners middle xs ≡ made verdict out = sym (ap (made verdict) e ∙ made_again (corners middle xs)) in
           record {
-            halves_meet = λ o h k. subst (λ ys. All (Alike ◌≡◌ (refine m) ys) (halves m (o ∷ []))) back (All-weaker _ _ (λ p g. g.1) _ (halves_alike ◌≡◌ middle laws m w xs count (o ∷ []) ((h, k), tt)));
+            halves_meet = λ o h k. subst (λ ys. AllByRecursion (Alike ◌≡◌ (refine m) ys) (halves m (o ∷ []))) back (All-weaker _ _ (λ p g. g.1) _ (halves_alike ◌≡◌ middle laws m w xs count (o ∷ []) ((h, k), tt)));
             insides_meet = λ c h. subst (λ ys. Alike ◌≡◌ (refine m) ys (2 * c)) back (inside_alike ◌≡◌ middle laws m w xs count c h);
           }

@@ -1,6 +1,6 @@
 -- The words that say which tasks have run.
 use Rattle.std.proofs.Common.{◌≡◌, ℕ, zero, suc, ◌+◌, ◌<◌, ◌≤◌, cond, eqb, ◌⊎◌, List, [], ◌∷◌, ◌++◌, length, get_or, set, replicate, sym, refl, ap, ◌∙◌, inl, inr, zero-add, arith, length-set, get_or-set_other, get_or-set_same}
-use Rattle.std.specs.List.{ContainsAt as Has, HoldsAt, AllByRecursion as All}
+use Rattle.std.specs.List.{ContainsAt as Has, HoldsAt, AllByRecursion}
 use Rattle.std.proofs.ByRecursion.{has_append_left, has_append_right, has_push}
 use Rattle.std.proofs.lemmas.List.FromFn.{length-map-range_with_len, get_or-map-range_with_len}
 use Rattle.std.proofs.lemmas.List.{length-replicate, get_or-replicate, ext_get_or}
@@ -77,7 +77,7 @@ module _ (r : Mesh) where
       ])
 
   -- a word is 1 if its task is one of those that have run, else 0
-  word_tells : (ts : List Task) → All (TaskOf r) ts → (t : Task) → TaskOf r t →
+  word_tells : (ts : List Task) → AllByRecursion (TaskOf r) ts → (t : Task) → TaskOf r t →
       (Has ts t × (ran_word r ts (number r t) ≡ 1)) ⊎ ((Has ts t → ⊥) × (ran_word r ts (number r t) ≡ 0))
   word_tells [] a t h = inr (λ k. absurd (omega (arith, k.1)), refl)
   word_tells (u ∷ ts) a t h = elim (cases_eq (number r u) (number r t)) [
@@ -90,12 +90,12 @@ module _ (r : Mesh) where
         ]
   ]
 
-  pub ran_tells : (ts : List Task) → All (TaskOf r) ts → (t : Task) → TaskOf r t →
+  pub ran_tells : (ts : List Task) → AllByRecursion (TaskOf r) ts → (t : Task) → TaskOf r t →
       (Has ts t × (get_or (ran_words r ts) (number r t) 0 ≡ 1)) ⊎ ((Has ts t → ⊥) × (get_or (ran_words r ts) (number r t) 0 ≡ 0))
   ran_tells ts a t h = rw (getD_ran ts (number r t) (number_below r t h)) (word_tells ts a t h)
 
   -- no lowest task is left
-  pub ran_all : (ts : List Task) → All (TaskOf r) ts → r.quads + r.points ≤ least (λ i. eqb (get_or (ran_words r ts) i 0) 0) (r.quads + r.points) →
+  pub ran_all : (ts : List Task) → AllByRecursion (TaskOf r) ts → r.quads + r.points ≤ least (λ i. eqb (get_or (ran_words r ts) i 0) 0) (r.quads + r.points) →
       (t : Task) → TaskOf r t → Has ts t
   ran_all ts a all t h = elim (ran_tells ts a t h) [
     | inl y ↦ y.0

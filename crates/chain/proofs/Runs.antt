@@ -1,6 +1,6 @@
 -- The promise, by going through the calls.
 use Rattle.std.proofs.Common.{◌≡◌, ℕ, suc, ◌+◌, ◌*◌, ◌^◌, ◌≤◌, Bool, true, false, not, eqb, ltb, leb, List, [], ◌∷◌, ◌++◌, get_or, set, Some, None, Option, sym, refl, ap, ◌∙◌, subst, pow-suc, arith}
-use Rattle.std.specs.List.{AllByRecursion as All}
+use Rattle.std.specs.List.{AllByRecursion}
 use Rattle.std.proofs.lemmas.Bool.{ltb-false}
 use Rattle.std.proofs.lemmas.Bool.Decides.{nat_tests}
 use Rattle.mesh.specs.Count.{least}
@@ -45,7 +45,7 @@ record Stood (m : Mesh) (k : ℕ) : Type 0 where
 
 record Working (m : Mesh) (k : ℕ) (ts : List Task) : Type 0 where
   stood : Stood m k
-  are_tasks : All (TaskOf (level m k)) ts
+  are_tasks : AllByRecursion (TaskOf (level m k)) ts
   next_few : 4 * (level m k).quads ≤ most_quads
 
 abbrev Fit : Option Mesh → ℕ → Option (List Task) → Type 0

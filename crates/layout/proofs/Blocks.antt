@@ -1,6 +1,6 @@
 -- Blocks of words, and what writes do to them.
 use Rattle.std.proofs.Common.{◌≡◌, ℕ, ◌+◌, ◌-◌, ◌*◌, ◌<◌, ◌≤◌, ◌⊎◌, List, [], ◌∷◌, length, get_or, take, drop, set, replicate, sym, refl, ap, ◌∙◌, inl, inr, arith}
-use Rattle.std.specs.List.{AllByRecursion as All}
+use Rattle.std.specs.List.{AllByRecursion}
 use Rattle.std.proofs.lemmas.List.{length-take-le, length-drop, length-replicate, get_or-take, get_or-drop, get_or-replicate, ext_get_or, drop-set-lt, drop-set-add, take-set-le}
 use lib.Seq.{take-set-lt}
 use Rattle.refinement.specs.Tasks.{put}
@@ -55,7 +55,7 @@ write_before a n j x ws h = ap (take n) (drop-set-lt a ws j x h)
 
 -- each slot of some writes is below n
 abbrev pub Below : ℕ → List (ℕ × ℕ) → Type 0
-Below n ps = All (λ p. p.0 < n) ps
+Below n ps = AllByRecursion (λ p. p.0 < n) ps
 
 -- writes to a table, in its own block and in any other
 pub writes_inside : (a n : ℕ) (ps : List (ℕ × ℕ)) (ws : List ℕ) → Below n ps → block (put (shifted a ps) ws) a n ≡ put ps (block ws a n)

@@ -2,7 +2,7 @@
 -- The standing level, of F quads and V points, has the first 8F + V words. While a level is in work, its tables follow, which are those of a level
 -- of 4F quads and V + 3F points, and then F + V words that say which tasks have run: 44F + 3V in all. The words past these are free.
 use Rattle.std.specs.Prelude.{◌≡◌, ℕ, ◌+◌, ◌*◌, ◌<◌, ◌≤◌, List, [], ◌∷◌, ◌++◌, length, take, drop, Some, None}
-use Rattle.std.specs.List.{AllByRecursion as All}
+use Rattle.std.specs.List.{AllByRecursion}
 use Rattle.mesh.specs.Mesh.{Mesh, point, friend, start}
 use Rattle.refinement.specs.Tasks.{Task, TaskOf, number, corner_writes, friend_writes, mark_writes, start_writes, put, blank, runs}
 use Rattle.chain.specs.Calls.{Work, State, made}
@@ -69,6 +69,6 @@ pub record InRange (m : Mesh) : Type 0 where
 -- w is what some tasks of the level m have written, and tells which they are
 pub record Written (m : Mesh) (w : Work) : Type 0 where
   pub tasks_run : List Task
-  pub are_tasks : All (TaskOf m) tasks_run
+  pub are_tasks : AllByRecursion (TaskOf m) tasks_run
   pub tables_are : w.tables ≡ runs m tasks_run (blank m)
   pub ran_are : w.ran ≡ ran_words m tasks_run

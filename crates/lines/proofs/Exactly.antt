@@ -1,7 +1,7 @@
 -- Reading gives an outcome exactly where the text is as that outcome tells.
 use Rattle.std.proofs.Common.{◌≡◌, ℕ, zero, suc, ◌+◌, ◌-◌, ◌*◌, ◌<◌, ◌≤◌, true, ◌&&◌, leb, List, [], ◌∷◌, ◌++◌, length, get_or, take, drop, Some, None, Option, Result, sym, refl, ap, ◌∙◌, subst, inl, inr, append_assoc, arith}
 use Rattle.std.specs.Result as results
-use Rattle.std.specs.List.{flat_map, AllByRecursion as All}
+use Rattle.std.specs.List.{flat_map, AllByRecursion}
 use Rattle.std.proofs.ByRecursion.{All-take, All-drop}
 use Rattle.std.proofs.lemmas.List.{length-take-le, length-drop, append-nil, take_at}
 use Rattle.std.proofs.lemmas.Option.{MatchOption-at_some}
@@ -156,10 +156,10 @@ module _ (s : List ℕ) (r : Room) where
   told_reading (refused x) h = refuses_reading x h
 
 -- ---- from the outcome to what it tells
-sized_take : (n : ℕ) (ns : List ℕ) → All WordSized ns → All WordSized (take n ns)
+sized_take : (n : ℕ) (ns : List ℕ) → AllByRecursion WordSized ns → AllByRecursion WordSized (take n ns)
 sized_take n ns a = All-take WordSized n ns a
 
-sized_part : (i n : ℕ) (ns : List ℕ) → All WordSized ns → All WordSized (take n (drop i ns))
+sized_part : (i n : ℕ) (ns : List ℕ) → AllByRecursion WordSized ns → AllByRecursion WordSized (take n (drop i ns))
 sized_part i n ns a = All-take WordSized n (drop i ns) (All-drop WordSized i ns a)
 
 corners_long : (ns : List ℕ) → length ns ≡ 8 → length (take 4 ns) ≡ 4

@@ -1,6 +1,6 @@
 -- The word and the line that `word` and `line` find are those that the text begins with.
 use Rattle.std.proofs.Common.{◌≡◌, ℕ, zero, suc, ◌+◌, ◌*◌, ◌/◌, ◌%◌, ◌^◌, ◌<◌, true, ◌&&◌, eqb, ltb, List, [], ◌∷◌, ◌++◌, length, get_or, drop, IfSome, Some, None, Option, sym, refl, ap, ◌∙◌, subst, div-lt_iff_lt-mul, pow-suc, arith}
-use Rattle.std.specs.List.{AllByRecursion as All}
+use Rattle.std.specs.List.{AllByRecursion}
 use Rattle.std.proofs.ByRecursion.{All-from_get_or}
 use Rattle.std.proofs.lemmas.List.{drop_at}
 use Rattle.std.proofs.lemmas.Bool.{cond_both, cond-true, and_parts, and_from, ltb-true, ltb-false, lt-ltb, eqb-true, eq-eqb}
@@ -28,7 +28,7 @@ unfolding front
 front_none [] e = refl
 front_none (b ∷ t) e = cond_both (ltb (digit_of b) 16) (b ∷ front t) [] (λ x. x ≡ []) (λ h. let k = ltb-true (digit_of b) 16 h in absurd (omega arith)) (λ _. refl)
 
-front_append : (xs t : List ℕ) → All (λ b. digit_of b < 16) xs → Ends t → front (xs ++ t) ≡ xs
+front_append : (xs t : List ℕ) → AllByRecursion (λ b. digit_of b < 16) xs → Ends t → front (xs ++ t) ≡ xs
 unfolding front
 front_append [] t a e = front_none t e
 front_append (b ∷ xs) t a e = cond-true (ltb (digit_of b) 16) (b ∷ front (xs ++ t)) [] (lt-ltb (digit_of b) 16 a.0) ∙ ap (λ (x : List ℕ). b ∷ x) (front_append xs t a.1 e)
@@ -50,7 +50,7 @@ number_digits (suc k) n h =
     number_push 0 (digits k (n / 16)) (hex_byte (n % 16)) ∙ omega arith
 
 -- a word's digits are all digits, and write it
-word_digits : (n : ℕ) → All (λ b. digit_of b < 16) (word_text n)
+word_digits : (n : ℕ) → AllByRecursion (λ b. digit_of b < 16) (word_text n)
 unfolding word_text
 word_digits n = All-from_get_or (λ b. digit_of b < 16) (digits (width n) n) 0 (λ k h. let l = length_digits (width n) n in digit_in (width n) n k (omega arith))
 

@@ -1,6 +1,6 @@
 -- Lemmas on the words of a line: they are the same however they are read, and what is read is the text. Assumes nothing.
 use Rattle.std.proofs.Common.{◌≡◌, ℕ, ◌≤◌, List, [], ◌∷◌, ◌++◌, length, get_or, take, drop, sym, refl, ap, ◌∙◌, subst, append_assoc, arith}
-use Rattle.std.specs.List.{AllByRecursion as All}
+use Rattle.std.specs.List.{AllByRecursion}
 use Rattle.std.proofs.lemmas.List.{take_all, drop_all}
 use Rattle.lines.specs.Lines.{Ends, Word, Spaced, Words, Line}
 use Rattle.lines.specs.Text.{word_text, words_text, line_text, WordSized}
@@ -35,7 +35,7 @@ words_push [] s u n t p q = let P : List ℕ → Type 0 = λ x. Spaced x n t in 
 words_push (m ∷ ns) s u n t p q = (p.0, p.1, words_push ns p.0 u n t p.2 q)
 
 -- ---- the words and their text
-pub words_are_text : (ns s t : List ℕ) → Words s ns t → (s ≡ words_text ns ++ t) × All (WordSized) ns
+pub words_are_text : (ns s t : List ℕ) → Words s ns t → (s ≡ words_text ns ++ t) × AllByRecursion (WordSized) ns
 unfolding words_text
 words_are_text [] s t p = (p, tt)
 words_are_text (n ∷ ns) s t p =
@@ -47,7 +47,7 @@ unfolding words_text
 next_ends [] t e = e
 next_ends (n ∷ ns) t e = refl
 
-pub text_words : (ns t : List ℕ) → All (WordSized) ns → Ends t → Words (words_text ns ++ t) ns t
+pub text_words : (ns t : List ℕ) → AllByRecursion (WordSized) ns → Ends t → Words (words_text ns ++ t) ns t
 unfolding words_text
 text_words [] t a e = refl
 text_words (n ∷ ns) t a e = (

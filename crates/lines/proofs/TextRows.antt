@@ -1,6 +1,6 @@
 -- The tables of a mesh and the rows of its lines are each other's image.
 use Rattle.std.proofs.Common.{◌≡◌, ℕ, zero, suc, ◌+◌, ◌*◌, ◌≤◌, List, [], ◌∷◌, ◌++◌, length, take, drop, sym, refl, ap, ◌∙◌, mul-suc, arith, length-append}
-use Rattle.std.specs.List.{flat_map, AllByRecursion as All}
+use Rattle.std.specs.List.{flat_map, AllByRecursion}
 use Rattle.std.proofs.ByRecursion.{All-append, All-take, All-drop}
 use Rattle.std.proofs.lemmas.List.{take_at, drop_at, take_all, drop-drop, take-append-drop, length-take-le, length-drop, nil_from_length}
 use Rattle.lines.specs.Lines.{Row}
@@ -33,7 +33,7 @@ part_length : (i k : ℕ) (ns : List ℕ) → i + k ≤ length ns → length (ta
 part_length i k ns h = let d = length-drop i ns in length-take-le k (drop i ns) (omega arith)
 
 -- ---- from rows to tables and back
-pub rows_again : (rows : List (List ℕ)) → All (Row 8) rows → quad_rows (length rows) (flat_map (λ ns. take 4 ns) rows) (flat_map (λ ns. take 2 (drop 4 ns)) rows) (flat_map (λ ns. take 2 (drop 6 ns)) rows) ≡ rows
+pub rows_again : (rows : List (List ℕ)) → AllByRecursion (Row 8) rows → quad_rows (length rows) (flat_map (λ ns. take 4 ns) rows) (flat_map (λ ns. take 2 (drop 4 ns)) rows) (flat_map (λ ns. take 2 (drop 6 ns)) rows) ≡ rows
 unfolding quad_rows
 rows_again [] a = refl
 rows_again (ns ∷ rows) a =
@@ -48,7 +48,7 @@ rows_again (ns ∷ rows) a =
     ∙ ap (λ (x : List ℕ). x ∷ quad_rows (length rows) cs fs ms) (row_whole ns l)
     ∙ ap (λ (x : List (List ℕ)). ns ∷ x) (rows_again rows a.1)
 
-pub starts_again : (rows : List (List ℕ)) → All (Row 1) rows → start_rows (flat_map (λ ns. ns) rows) ≡ rows
+pub starts_again : (rows : List (List ℕ)) → AllByRecursion (Row 1) rows → start_rows (flat_map (λ ns. ns) rows) ≡ rows
 unfolding start_rows
 starts_again [] a = refl
 starts_again ([] ∷ rows) a = let l : length {A = ℕ} [] ≡ 1 = a.0.0 in absurd (omega arith)
@@ -85,7 +85,7 @@ tables_again (suc k) cs fs ms lc lf lm =
       count = ap suc r.count;
     }
 
-pub quad_rows_right : (k : ℕ) (cs fs ms : List ℕ) → length cs ≡ 4 * k → length fs ≡ 2 * k → length ms ≡ 2 * k → All WordSized cs → All WordSized fs → All WordSized ms → All (Row 8) (quad_rows k cs fs ms)
+pub quad_rows_right : (k : ℕ) (cs fs ms : List ℕ) → length cs ≡ 4 * k → length fs ≡ 2 * k → length ms ≡ 2 * k → AllByRecursion WordSized cs → AllByRecursion WordSized fs → AllByRecursion WordSized ms → AllByRecursion (Row 8) (quad_rows k cs fs ms)
 unfolding quad_rows
 quad_rows_right zero cs fs ms lc lf lm wc wf wm = tt
 quad_rows_right (suc k) cs fs ms lc lf lm wc wf wm =
@@ -109,14 +109,14 @@ unfolding start_rows
 start_rows_count [] = refl
 start_rows_count (s ∷ ss) = ap suc (start_rows_count ss)
 
-pub start_rows_right : (ss : List ℕ) → All WordSized ss → All (Row 1) (start_rows ss)
+pub start_rows_right : (ss : List ℕ) → AllByRecursion WordSized ss → AllByRecursion (Row 1) (start_rows ss)
 unfolding start_rows
 start_rows_right [] w = tt
 start_rows_right (s ∷ ss) w = ((refl, (w.0, tt)), start_rows_right ss w.1)
 
 -- ---- parts of rows, joined
-module _ (n k : ℕ) (part : List ℕ → List ℕ) (long : (ns : List ℕ) → length ns ≡ n → length (part ns) ≡ k) (among : (ns : List ℕ) → All WordSized ns → All WordSized (part ns)) where
-  pub joined_length : (rows : List (List ℕ)) → All (Row n) rows → length (flat_map part rows) ≡ k * length rows
+module _ (n k : ℕ) (part : List ℕ → List ℕ) (long : (ns : List ℕ) → length ns ≡ n → length (part ns) ≡ k) (among : (ns : List ℕ) → AllByRecursion WordSized ns → AllByRecursion WordSized (part ns)) where
+  pub joined_length : (rows : List (List ℕ)) → AllByRecursion (Row n) rows → length (flat_map part rows) ≡ k * length rows
   joined_length [] a = omega arith
   joined_length (ns ∷ rows) a =
       let l = long ns a.0.0 in
@@ -124,6 +124,6 @@ module _ (n k : ℕ) (part : List ℕ → List ℕ) (long : (ns : List ℕ) → 
       let m = mul-suc k (length rows) in
       length-append (part ns) (flat_map part rows) ∙ omega arith
 
-  pub joined_sized : (rows : List (List ℕ)) → All (Row n) rows → All WordSized (flat_map part rows)
+  pub joined_sized : (rows : List (List ℕ)) → AllByRecursion (Row n) rows → AllByRecursion WordSized (flat_map part rows)
   joined_sized [] a = tt
   joined_sized (ns ∷ rows) a = All-append WordSized (part ns) (flat_map part rows) (among ns a.0.1) (joined_sized rows a.1)

@@ -1,6 +1,6 @@
 -- What it is for a text to begin with a word, with words or with lines.
 use Rattle.std.specs.Prelude.{◌≡◌, ℕ, ◌-◌, ◌^◌, ◌<◌, ◌≤◌, cond, List, [], ◌∷◌, ◌++◌, length, take, nat_lt, slice_index}
-use Rattle.std.specs.List.{flat_map, AllByRecursion as All}
+use Rattle.std.specs.List.{flat_map, AllByRecursion}
 use Rattle.lines.specs.Text.{digits, word_text, line_text, WordSized}
 
 -- the digit that a byte is, and 16 where it is none
@@ -38,7 +38,7 @@ Words s (n ∷ ns) t = (u : List ℕ) × Spaced s n u × Words u ns t
 
 -- s begins with a line of the kind a, b with the words ns, and t is what comes after it
 pub record Line (a b : ℕ) (s ns t : List ℕ) : Type 0 where
-  pub small : All WordSized ns
+  pub small : AllByRecursion WordSized ns
   pub text : s ≡ line_text a b ns ++ t
 
 -- s does not begin with a line of the kind a, b with k words
@@ -47,9 +47,9 @@ NoLine a b k s = (ns t : List ℕ) → length ns ≡ k → Line a b s ns t → �
 
 -- a row of k words
 abbrev pub Row : ℕ → List ℕ → Type 0
-Row k ns = (length ns ≡ k) × All WordSized ns
+Row k ns = (length ns ≡ k) × AllByRecursion WordSized ns
 
 -- s begins with a line of the kind a, b for each of the rows, of k words each, and t is what comes after them
 pub record Begins (a b k : ℕ) (s : List ℕ) (rows : List (List ℕ)) (t : List ℕ) : Type 0 where
-  pub right : All (Row k) rows
+  pub right : AllByRecursion (Row k) rows
   pub text : s ≡ flat_map (line_text a b) rows ++ t

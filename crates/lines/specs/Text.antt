@@ -1,6 +1,6 @@
 -- The text of a word, of a line and of a mesh. All that is read or written follows from these.
 use Rattle.std.specs.Prelude.{ℕ, zero, suc, ◌+◌, ◌/◌, ◌%◌, ◌<◌, cond, List, [], ◌∷◌, ◌++◌, map, take, drop, nat_lt}
-use Rattle.std.specs.List.{flat_map, AllByRecursion as All}
+use Rattle.std.specs.List.{flat_map, AllByRecursion}
 use Rattle.mesh.specs.Mesh.{Mesh}
 
 -- the byte of a digit below 16: '0' to '9', 'a' to 'f'
@@ -56,7 +56,7 @@ WordSized n = n < 16777216
 pub record Writable (m : Mesh) : Type 0 where
   pub quads_fit : WordSized m.quads
   pub points_fit : WordSized m.points
-  pub corners_fit : All WordSized m.corners
-  pub friends_fit : All WordSized m.friends
-  pub marks_fit : All WordSized m.marks
-  pub starts_fit : All WordSized m.starts
+  pub corners_fit : AllByRecursion WordSized m.corners
+  pub friends_fit : AllByRecursion WordSized m.friends
+  pub marks_fit : AllByRecursion WordSized m.marks
+  pub starts_fit : AllByRecursion WordSized m.starts

@@ -1,6 +1,6 @@
 // Words and lines of a text, each taken from the front of the bytes that are left.
 ghost use Rattle.std.specs.Prelude.{◌≡◌, ℕ, List, length, Some, None, MatchOption};
-ghost use Rattle.std.specs.List.{AllByRecursion as All};
+ghost use Rattle.std.specs.List.{AllByRecursion};
 ghost use Rattle.lines.specs.Lines.{digit_of, Run, Word, Spaced, Words};
 ghost use Rattle.lines.specs.Reading.{line};
 ghost use Rattle.lines.specs.Text.{WordSized};
@@ -73,7 +73,7 @@ fn read_words<'a>(s: &'a [u8], out: &mut [u32]) -> Option<&'a [u8]>
 
 // A line of the kind a, b with as many words as `out` has places, and the bytes after it; None where no such line is there.
 pub(crate) fn read_line<'a>(s: &'a [u8], a: u8, b: u8, out: &mut [u32]) -> Option<&'a [u8]>
-    ensures { MatchOption result (line a b (length out.old) s.now ≡ None) (λ rest. (line a b (length out.old) s.now ≡ Some (out.new, rest.now)) × All WordSized out.new) }
+    ensures { MatchOption result (line a b (length out.old) s.now ≡ None) (λ rest. (line a b (length out.old) s.now ≡ Some (out.new, rest.now)) × AllByRecursion WordSized out.new) }
 {
     let [first, second, words @ ..] = s else {
         return None;

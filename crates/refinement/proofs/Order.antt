@@ -1,6 +1,6 @@
 -- Tasks in any order, with repeats, make the same level.
 use Rattle.std.proofs.Common.{◌≡◌, ℕ, ◌+◌, ◌*◌, ◌<◌, List, [], ◌∷◌, ◌++◌, map, length, get_or, replicate, sym, refl, ap, ◌∙◌, inl, inr, zero-add, arith}
-use Rattle.std.specs.List.{range_with_len, ContainsAt as Has, AllByRecursion as All}
+use Rattle.std.specs.List.{range_with_len, ContainsAt as Has, AllByRecursion}
 use Rattle.std.proofs.lemmas.List.{length-replicate, get_or-replicate, ext_get_or}
 use Rattle.std.proofs.ByRecursion.{All-weaker, all-has, All-append, All-push, All-from_get_or, has_append_left, has_append_right}
 use Rattle.std.proofs.lemmas.List.FromFn.{length-map-range_with_len, get_or-map-range_with_len}
@@ -60,12 +60,12 @@ work_goes_on m w ts t h k = record {
 has_counted : {X : Type 0} (f : ℕ → X) (n i : ℕ) → i < n → Has (map f (range_with_len 0 n)) (f i)
 has_counted f n i l = (i, rw length-map-range_with_len l, λ d. get_or-map-range_with_len f 0 n i i d l (zero-add i))
 
-all_counted : {X : Type 0} (P : X → Type 0) (f : ℕ → X) (n : ℕ) → ((i : ℕ) → i < n → P (f i)) → All P (map f (range_with_len 0 n))
+all_counted : {X : Type 0} (P : X → Type 0) (f : ℕ → X) (n : ℕ) → ((i : ℕ) → i < n → P (f i)) → AllByRecursion P (map f (range_with_len 0 n))
 all_counted P f n h =
     All-from_get_or P (map f (range_with_len 0 n)) (f 0)
     (λ i l. let k : i < n = rw length-map-range_with_len at l in rw (get_or-map-range_with_len f 0 n i i (f 0) k (zero-add i)) (h i k))
 
-pub tasks_are : (m : Mesh) → All (TaskOf m) (tasks m)
+pub tasks_are : (m : Mesh) → AllByRecursion (TaskOf m) (tasks m)
 unfolding tasks
 tasks_are m =
     All-append (TaskOf m) (map quad_task (range_with_len 0 m.quads)) (map point_task (range_with_len 0 m.points))
@@ -85,16 +85,16 @@ number_once m (point_task u) (point_task v) h k e = let z : u ≡ v = omega arit
 
 -- one table
 module _ (m : Mesh) (word owner : ℕ → ℕ) (n : ℕ) (f : Task → List (ℕ × ℕ)) (agree : (t : Task) → TaskOf m t → Agree word owner n (number m t) (f t)) where
-  table_made : (ts : List Task) → All (TaskOf m) ts → (t : Task) → Has ts t → (s : ℕ) → s < n → Names s (f t) → get_or (puts f ts (replicate n 0)) s 0 ≡ word s
+  table_made : (ts : List Task) → AllByRecursion (TaskOf m) ts → (t : Task) → Has ts t → (s : ℕ) → s < n → Names s (f t) → get_or (puts f ts (replicate n 0)) s 0 ≡ word s
   table_made ts a t h s l k =
       puts_make word owner n Task (number m) f ts (replicate n 0) s t
       (All-weaker (TaskOf m) (λ t. Agree word owner n (number m t) (f t)) agree ts a) (rw length-replicate l) h k
 
-  table_stands : (ts : List Task) → All (TaskOf m) ts → (t : Task) → Has ts t → Hold (puts f ts (replicate n 0)) (f t)
+  table_stands : (ts : List Task) → AllByRecursion (TaskOf m) ts → (t : Task) → Has ts t → Hold (puts f ts (replicate n 0)) (f t)
   table_stands ts a t h =
       hold word owner n (number m t) (f t) (puts f ts (replicate n 0)) (agree t (all-has (TaskOf m) ts t a h)) (λ s l k. table_made ts a t h s l k)
 
-  table_waits : (ts : List Task) → All (TaskOf m) ts → (t : Task) → TaskOf m t → (Has ts t → ⊥) → Empty (puts f ts (replicate n 0)) (f t)
+  table_waits : (ts : List Task) → AllByRecursion (TaskOf m) ts → (t : Task) → TaskOf m t → (Has ts t → ⊥) → Empty (puts f ts (replicate n 0)) (f t)
   table_waits ts a t k h =
       empty word owner n (number m t) (f t) (puts f ts (replicate n 0)) (agree t k)
       (λ s l i. puts_leave f ts (replicate n 0) s (other s i) ∙ get_or-replicate n s 0 0 l)
@@ -182,7 +182,7 @@ counted_runs m ts =
     }
 
 -- every task stands once every task has run
-pub refined_by : (m : Mesh) → Lawful m → (ts : List Task) → All (TaskOf m) ts → ((t : Task) → TaskOf m t → Has ts t) → Refined m (runs m ts (blank m))
+pub refined_by : (m : Mesh) → Lawful m → (ts : List Task) → AllByRecursion (TaskOf m) ts → ((t : Task) → TaskOf m t → Has ts t) → Refined m (runs m ts (blank m))
 unfolding blank
 refined_by m w ts a h = record {
   quads_are = runs_quads m ts (blank m);

@@ -1,6 +1,6 @@
 -- Writes to a table, where each slot has one word and one owner.
 use Rattle.std.proofs.Common.{◌≡◌, ℕ, zero, suc, ◌+◌, ◌<◌, ◌≤◌, ◌⊎◌, List, [], ◌∷◌, length, get_or, set, sym, refl, ap, ◌∙◌, inl, inr, arith}
-use Rattle.std.specs.List.{ContainsAt as Has, AllByRecursion as All}
+use Rattle.std.specs.List.{ContainsAt as Has, AllByRecursion}
 use Rattle.std.proofs.lemmas.List.{length-set, get_or-set_same, get_or-set_other, set-get_or}
 use Rattle.std.proofs.ByRecursion.{All-get_or}
 use Rattle.std.proofs.lemmas.Bool.{cases_eq}
@@ -53,7 +53,7 @@ puts_leave f (x ∷ xs) t s h =
 module _ (word owner : ℕ → ℕ) (n : ℕ) where
   -- the writes of the owner k
   abbrev pub Agree : ℕ → List (ℕ × ℕ) → Type 0
-  Agree k ws = All (λ w. (w.1 ≡ word w.0) × (w.0 < n) × (owner w.0 ≡ k)) ws
+  Agree k ws = AllByRecursion (λ w. (w.1 ≡ word w.0) × (w.0 < n) × (owner w.0 ≡ k)) ws
 
   pub names_owner : (k : ℕ) (ws : List (ℕ × ℕ)) → Agree k ws → (s : ℕ) → Names s ws → owner s ≡ k
   names_owner k [] a s h = absurd h
@@ -81,14 +81,14 @@ module _ (word owner : ℕ → ℕ) (n : ℕ) where
       ]
 
   module _ (X : Type 0) (number : X → ℕ) (f : X → List (ℕ × ℕ)) where
-    puts_keep : (xs : List X) (t : List ℕ) (s : ℕ) → All (λ x. Agree (number x) (f x)) xs → s < length t → get_or t s 0 ≡ word s → get_or (puts f xs t) s 0 ≡ word s
+    puts_keep : (xs : List X) (t : List ℕ) (s : ℕ) → AllByRecursion (λ x. Agree (number x) (f x)) xs → s < length t → get_or t s 0 ≡ word s → get_or (puts f xs t) s 0 ≡ word s
     unfolding puts
     puts_keep [] t s a l e = e
     puts_keep (x ∷ xs) t s a l e =
         let i : s < length (put (f x) t) = simp length_put l in
         puts_keep xs (put (f x) t) s a.1 i (put_keeps (number x) (f x) t s a.0 l e)
 
-    pub puts_make : (xs : List X) (t : List ℕ) (s : ℕ) (x : X) → All (λ x. Agree (number x) (f x)) xs → s < length t → Has xs x → Names s (f x) → get_or (puts f xs t) s 0 ≡ word s
+    pub puts_make : (xs : List X) (t : List ℕ) (s : ℕ) (x : X) → AllByRecursion (λ x. Agree (number x) (f x)) xs → s < length t → Has xs x → Names s (f x) → get_or (puts f xs t) s 0 ≡ word s
     unfolding puts
     puts_make [] t s x a l h k = absurd (omega (arith, h.1))
     puts_make (y ∷ xs) t s x a l h k =

@@ -1,6 +1,6 @@
 -- The laws of lawful meshes and of refinement.
 use Rattle.std.specs.Prelude.{◌≡◌, ℕ, ◌+◌, ◌*◌, ◌%◌, ◌^◌, ◌<◌, ◌≤◌, ◌⊎◌, List, [], ◌∷◌, ◌++◌, length, slice_index}
-use Rattle.std.specs.List.{ContainsAt as Has, AllByRecursion as All}
+use Rattle.std.specs.List.{ContainsAt as Has, AllByRecursion}
 use Rattle.mesh.specs.Causes.{FirstCause, judge, mesh_of}
 use Rattle.mesh.specs.Mesh.{Mesh, Counted, Lawful, Meets, RunsBack, point, friend, mark, step, valence, most_quads}
 use Rattle.mesh.specs.Refusals.{fine, declined}
@@ -94,12 +94,12 @@ WorkGoesOn = (m w : Mesh) (ts : List Task) (t : Task) → After m ts w → TaskO
 
 -- what a task wrote stands, whatever ran after it
 abbrev pub TasksStand : Type 0
-TasksStand = (m : Mesh) → Lawful m → (ts : List Task) → All (TaskOf m) ts → (t : Task) → Has ts t → Stands m (runs m ts (blank m)) t
+TasksStand = (m : Mesh) → Lawful m → (ts : List Task) → AllByRecursion (TaskOf m) ts → (t : Task) → Has ts t → Stands m (runs m ts (blank m)) t
 
 -- the slots of a task that has not run are 0
 abbrev pub TasksWait : Type 0
 TasksWait =
-    (m : Mesh) → Lawful m → (ts : List Task) → All (TaskOf m) ts → (t : Task) → TaskOf m t → (Has ts t → ⊥) →
+    (m : Mesh) → Lawful m → (ts : List Task) → AllByRecursion (TaskOf m) ts → (t : Task) → TaskOf m t → (Has ts t → ⊥) →
     Waits m (runs m ts (blank m)) t
 
 -- a task that stands is run again to no effect
@@ -109,7 +109,7 @@ RunAgain = (m w : Mesh) (t : Task) → Stands m w t → run m t w ≡ w
 -- every task at least once, in any order, makes the refined level
 abbrev pub AnyOrder : Type 0
 AnyOrder =
-    (m : Mesh) → Lawful m → (ts : List Task) → All (TaskOf m) ts → ((t : Task) → TaskOf m t → Has ts t) →
+    (m : Mesh) → Lawful m → (ts : List Task) → AllByRecursion (TaskOf m) ts → ((t : Task) → TaskOf m t → Has ts t) →
     runs m ts (blank m) ≡ refine m
 
 -- slot s of a table after the tasks ts: one word of one task is due there; it stands if that task is one of ts, and else 0 does
@@ -134,7 +134,7 @@ pub record MadeBy (m : Mesh) (ts : List Task) (w : Mesh) : Type 0 where
   pub all_run : ((t : Task) → TaskOf m t → Has ts t) → w ≡ refine m
 
 abbrev pub AnyListOfTasks : Type 0
-AnyListOfTasks = (m : Mesh) → Lawful m → (ts : List Task) → All (TaskOf m) ts → MadeBy m ts (runs m ts (blank m))
+AnyListOfTasks = (m : Mesh) → Lawful m → (ts : List Task) → AllByRecursion (TaskOf m) ts → MadeBy m ts (runs m ts (blank m))
 
 -- a level in which every task stands is the refined one
 abbrev pub RefinedIs : Type 0

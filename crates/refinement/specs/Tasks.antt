@@ -1,6 +1,6 @@
 -- A level refined once: what each task writes, and the tasks run in any order.
 use Rattle.std.specs.Prelude.{◌≡◌, ℕ, zero, suc, ◌+◌, ◌-◌, ◌*◌, ◌/◌, ◌%◌, ◌<◌, cond, ◌⊎◌, List, [], ◌∷◌, ◌++◌, map, replicate, ◌==◌, nat_le, slice_index, slice_set}
-use Rattle.std.specs.List.{range_with_len, AllByRecursion as All}
+use Rattle.std.specs.List.{range_with_len, AllByRecursion}
 use Rattle.mesh.specs.Mesh.{Mesh, Counted, point, friend, mark, start, ends}
 
 -- a task for each quad and one for each point
@@ -130,7 +130,7 @@ runs m (t ∷ ts) w = runs m ts (run m t w)
 
 -- w is the level in work after the tasks ts
 pub record After (m : Mesh) (ts : List Task) (w : Mesh) : Type 0 where
-  pub are_tasks : All (TaskOf m) ts
+  pub are_tasks : AllByRecursion (TaskOf m) ts
   pub work_is : w ≡ runs m ts (blank m)
 
 -- each task once by number, quads first
@@ -147,10 +147,10 @@ level m (suc k) = refine (level m k)
 
 -- the words of a list of writes stand in a table, or all their slots are 0
 abbrev pub Hold : List ℕ → List (ℕ × ℕ) → Type 0
-Hold t ws = All (λ w. slice_index t w.0 ≡ w.1) ws
+Hold t ws = AllByRecursion (λ w. slice_index t w.0 ≡ w.1) ws
 
 abbrev pub Empty : List ℕ → List (ℕ × ℕ) → Type 0
-Empty t ws = All (λ w. slice_index t w.0 ≡ 0) ws
+Empty t ws = AllByRecursion (λ w. slice_index t w.0 ≡ 0) ws
 
 -- a task that has run: its words stand
 pub record Stands (m w : Mesh) (t : Task) : Type 0 where

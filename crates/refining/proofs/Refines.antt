@@ -1,6 +1,6 @@
 -- The calls that refine a bench once, one after the other.
 use Rattle.std.proofs.Common.{◌≡◌, ℕ, zero, suc, ◌+◌, ◌-◌, ◌<◌, ◌≤◌, eqb, ltb, List, [], ◌∷◌, ◌++◌, map, get_or, Some, None, sym, refl, ap, ◌∙◌, inl, inr, arith}
-use Rattle.std.specs.List.{range_with_len, AllByRecursion as All}
+use Rattle.std.specs.List.{range_with_len, AllByRecursion}
 use Rattle.std.proofs.lemmas.List.FromFn.{map-range_with_len_more}
 use Rattle.std.proofs.ByRecursion.{All-push}
 use Rattle.std.proofs.lemmas.List.{append_assoc, append-nil}
@@ -30,7 +30,7 @@ run_on_push s (b ∷ cs) c = run_on_push (next s b) cs c
 pub run_on_more : (call : ℕ → Call) (s : State) (i : ℕ) → run_on s (map call (range_with_len 0 (i + 1))) ≡ next (run_on s (map call (range_with_len 0 i))) (call i)
 run_on_more call s i = ap (run_on s) (map-range_with_len_more call 0 i i (omega arith)) ∙ run_on_push s (map call (range_with_len 0 i)) (call i)
 
-all_left : {X : Type 0} (P : X → Type 0) (xs ys : List X) → All P (xs ++ ys) → All P xs
+all_left : {X : Type 0} (P : X → Type 0) (xs ys : List X) → AllByRecursion P (xs ++ ys) → AllByRecursion P xs
 all_left P [] ys a = tt
 all_left P (x ∷ xs) ys a = (a.0, all_left P xs ys a.1)
 
@@ -43,22 +43,22 @@ module _ (words mark : ℕ) (m : Mesh) where
   abbrev after : List Task → State
   after ts = record { words = words; mark = mark; standing = Some m; work = work_on (Some m) (Some ts) }
 
-  task_more : (ts : List Task) (t : Task) → All (TaskOf m) ts → TaskOf m t → holding (after ts) (Some m) (worked (Some m) t (after ts).work) ≡ after (ts ++ t ∷ [])
+  task_more : (ts : List Task) (t : Task) → AllByRecursion (TaskOf m) ts → TaskOf m t → holding (after ts) (Some m) (worked (Some m) t (after ts).work) ≡ after (ts ++ t ∷ [])
   task_more ts t a h =
       let w = (work_goes_on m (runs m ts (blank m)) ts t (record { are_tasks = a; work_is = refl }) h).work_is in
       let r = ran_push m ts t h in
       cc
 
-  quad_more : (ts : List Task) (q : ℕ) → All (TaskOf m) ts → q < m.quads → next (after ts) (quad q) ≡ after (ts ++ quad_task q ∷ [])
+  quad_more : (ts : List Task) (q : ℕ) → AllByRecursion (TaskOf m) ts → q < m.quads → next (after ts) (quad q) ≡ after (ts ++ quad_task q ∷ [])
   quad_more ts q a h = carried_out (after ts) (quad q) (cond-false _ _ _ (lt-leb _ _ h)) ∙ task_more ts (quad_task q) a h
 
-  point_more : (ts : List Task) (v : ℕ) → All (TaskOf m) ts → v < m.points → next (after ts) (point v) ≡ after (ts ++ point_task v ∷ [])
+  point_more : (ts : List Task) (v : ℕ) → AllByRecursion (TaskOf m) ts → v < m.points → next (after ts) (point v) ≡ after (ts ++ point_task v ∷ [])
   point_more ts v a h = carried_out (after ts) (point v) (cond-false _ _ _ (lt-leb _ _ h)) ∙ task_more ts (point_task v) a h
 
   -- calls by number, each of which runs its task
   numbers_run : (call : ℕ → Call) (task : ℕ → Task) (bound : ℕ) → ((i : ℕ) → i < bound → TaskOf m (task i)) →
-      ((ts : List Task) (i : ℕ) → All (TaskOf m) ts → i < bound → next (after ts) (call i) ≡ after (ts ++ task i ∷ [])) →
-      (a n : ℕ) (ts : List Task) → All (TaskOf m) ts → a + n ≤ bound → run_on (after ts) (map call (range_with_len a n)) ≡ after (ts ++ map task (range_with_len a n))
+      ((ts : List Task) (i : ℕ) → AllByRecursion (TaskOf m) ts → i < bound → next (after ts) (call i) ≡ after (ts ++ task i ∷ [])) →
+      (a n : ℕ) (ts : List Task) → AllByRecursion (TaskOf m) ts → a + n ≤ bound → run_on (after ts) (map call (range_with_len a n)) ≡ after (ts ++ map task (range_with_len a n))
   numbers_run call task bound is more a zero ts all h = ap after (sym (append-nil ts))
   numbers_run call task bound is more a (suc n) ts all h =
       ap (λ s. run_on s (map call (range_with_len (a + 1) n))) (more ts a all (omega arith))
