@@ -12,7 +12,7 @@ import re
 import sys
 
 NAME = r"[^\s(){}\[\];,.«»\"λ:@]+"
-DEFINES = re.compile(r"^\s*(?:(?:pub|abbrev|unfoldable|record|data)\s+)*(" + NAME + r"(?:\s+" + NAME + r")*?)\s*(?:\{[^{}]*\}\s*|\((?:[^()]|\([^()]*\))*\)\s*)*:\s(.*)$")
+DEFINES = re.compile(r"^\s*(?:(?:pub|abbrev|unfoldable|record|data)\s+)*(" + NAME + r"(?:\s+" + NAME + r")*?)\s*(?:\{[^{}]*\}\s*|\((?:[^()]|\([^()]*\))*\)\s*)*:(?:\s(.*))?$")
 WORDS = {"pub", "abbrev", "unfoldable", "record", "data", "module", "use", "where", "let", "in", "elim", "unfolding", "_"}
 MADE = re.compile(r"^(?:goal|need|given)\.")
 TOKEN = re.compile(r"[^\s(){}\[\];,.«»\"@]+")
@@ -53,7 +53,7 @@ def own_names():
             if line.lstrip().startswith("--"):
                 continue
             m = DEFINES.match(line)
-            if not m or MADE.match(m.group(2)):
+            if not m or MADE.match(m.group(2) or ""):
                 continue
             for name in m.group(1).split():
                 if name in WORDS or "=" in name or "◌" in name:

@@ -283,7 +283,7 @@ module _ {V : Type 0} (middle : V → V → V) (m : Mesh) (w : Lawful m) where
 pub seams_stay : {V : Type 0} (like : V → V → Type 0) (middle : V → V → V) → Likeness like middle → (m : Mesh) → Lawful m → SeamsStay like middle m (Allowed m)
 seams_stay like middle laws m w j xs count = record {
   as_many = many middle m w j xs count;
-  pieces-meet = pieces_alike middle m w like laws j xs count;
+  pieces_meet = pieces_alike middle m w like laws j xs count;
   insides_meet = insides_alike middle m w like laws j xs count;
 }
 
@@ -306,6 +306,6 @@ seams_nearer like middle m Far Near h f j xs count =
     let r = f j xs count in
     record {
       as_many = λ i n. r.as_many i (h _ n);
-      pieces-meet = λ k o l a i n. r.pieces-meet k o l a i (h _ n);
+      pieces_meet = λ k o l a i n. r.pieces_meet k o l a i (h _ n);
       insides_meet = λ k c l i n. r.insides_meet k c l i (h _ n);
     }

@@ -61,7 +61,7 @@ ValuesStayInRange lies blended = (m : Mesh) → Lawful m → ValuesStay lies ble
 -- off-edges, and their pieces
 pub record SeamsMeet {V : Type 0} (like : V → V → Type 0) (middle : V → V → V) (m : Mesh) (Near : ℕ → Type 0) (j : ℕ) (xs : List V) : Type 0 where
   pub as_many : (i : ℕ) → Near (j + i) → length (corners_carried middle xs i) ≡ 4 * (level m (j + i)).quads
-  pub pieces-meet :
+  pub pieces_meet :
       (k o : ℕ) → o < 2 * (level m (j + k)).quads → Alike like (level m (j + k)) (corners_carried middle xs k) o →
       (i : ℕ) → Near (j + k + i) →
       AllByRecursion (Alike like (level m (j + k + i)) (corners_carried middle xs (k + i))) (pieces m (j + k) o i)
