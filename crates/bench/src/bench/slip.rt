@@ -1,26 +1,30 @@
-ghost use Rattle.std.specs.Prelude.{◌≡◌};
+ghost use Rattle.std.specs.Prelude.{◌≡◌, true, false};
 
 use mesh::fault::Fault;
 
 // The right to finish or withdraw the level in work. It bears the mark number of its bench.
 pub struct Slip {
     mark: u32,
+    // whether it has been spent: of no slip that is handed out is it so
+    spent: bool,
 }
 
-// Nobody can show ⊥, so no slip is ever let go: it ends in a finish or a withdraw alone.
+// Only a slip that has been spent may be let go. Spending takes it apart, so nobody holds such a slip, and of one that is held nobody
+// can show it. So no slip is ever let go: it ends in a finish or a withdraw alone.
 impl Drop for Slip {
     fn drop(self)
-        requires { ⊥ }
+        requires { self.spent ≡ true }
     {
-        let Slip { mark: _ } = self;
+        let Slip { mark: _, spent: _ } = self;
     }
 }
 
 impl Slip {
     pub(super) fn new(mark: u32) -> Self
-        ensures { result.mark ≡ mark }
+        ensures bears { result.mark ≡ mark }
+        ensures unspent { result.spent ≡ false }
     {
-        Slip { mark }
+        Slip { mark, spent: false }
     }
 
     pub fn mark(&self) -> u32
@@ -32,7 +36,7 @@ impl Slip {
     pub(super) fn spend(self) -> u32
         ensures { result ≡ self.mark }
     {
-        let Slip { mark } = self;
+        let Slip { mark, spent: _ } = self;
         mark
     }
 }

@@ -35,5 +35,5 @@ returns-else-self-quads c =
     let b = c.args.self.now in
     record {
       call = begin_carried b.mark b.quads b.points b.words.cells.now b.stage _ c.in-Standing.is c.if-quads-gt-MOST_QUADS.false c.if-self-quads.false c.blank.ensures;
-      slip = c.new.ensures;
+      slip = c.new.ensures.bears;
     }
