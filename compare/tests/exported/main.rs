@@ -2,7 +2,7 @@
 
 #[cfg(not(exported))]
 compile_error!(
-    "a library in target/staticlib is missing: run `compare/run`, or `rt staticlib exported` and `rt staticlib exported_work` first"
+    "target/staticlib/libexported.a is missing: run `compare/run`, or `bin/staticlib exported_c exported` first"
 );
 
 mod carrying;
