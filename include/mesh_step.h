@@ -12,7 +12,8 @@
  * how much more the compiled code uses was not measured. Calls may run at the same time on
  * buffers of their own.
  *
- * Link with target/staticlib/libstep.a, which `rt staticlib step` makes.
+ * Link with the static library of the crate step_c, which `rt lib` makes in the folder of that crate.
+ * `tests/c_call` makes it and copies it to target/staticlib/libstep.a.
  */
 #ifndef MESH_STEP_H
 #define MESH_STEP_H
