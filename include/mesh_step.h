@@ -12,7 +12,7 @@
  * how much more the compiled code uses was not measured. Calls may run at the same time on
  * buffers of their own.
  *
- * Link with target/staticlib/libstep.a, which `rt staticlib step` makes.
+ * Link with target/staticlib/libstep.a, the static library of the crate step_c, which `bin/staticlib step_c step` makes.
  */
 #ifndef MESH_STEP_H
 #define MESH_STEP_H
