@@ -2,7 +2,7 @@
 
 #[cfg(not(exported))]
 compile_error!(
-    "target/staticlib/libexported.a is missing: run `compare/run`, or `bin/staticlib exported_c exported` first"
+    "a library in target/staticlib is missing: run `compare/run` first"
 );
 
 mod carrying;

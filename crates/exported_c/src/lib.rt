@@ -1,4 +1,4 @@
-// The calls of `exported` and `exported_work`, for a program in Rust or C that compares the built code with an implementation of its own.
+// The calls of `exported`, for a program in Rust or C that compares the built code with an implementation of its own.
 #![tactic(auto)]
 
 ghost use Rattle.attributes.specs.Colours.{middle_of as colour_middle, row_of as colour_row, verdict_of as colour_verdict};
@@ -9,15 +9,12 @@ ghost use Rattle.carried.specs.Blends.{values as values_of};
 ghost use Rattle.carried.specs.Corners.{corners as corners_of};
 ghost use Rattle.carry.specs.Rows.{corners_refusal, made as values_made, values_refusal};
 ghost use Rattle.chain.specs.Calls.{made};
-ghost use Rattle.chain.specs.Clauses.{run_on};
 ghost use Rattle.exported.specs.Answers.{Becomes, found_of, refusal_of};
 ghost use Rattle.exported.specs.Benches.{copied, found_at, refine_standing, refine_verdict, write_verdict, written_of};
-ghost use Rattle.exported_work.specs.Works.{numbers_of, over, requests_of};
 ghost use Rattle.lines.specs.Reading.{Holds, answer, heading, reading, room};
 ghost use Rattle.lines.specs.Text.{mesh_text};
 ghost use Rattle.mesh.specs.Causes.{judge, mesh_of};
-ghost use Rattle.requests.specs.Sessions.{all_calls, replies};
-ghost use Rattle.std.specs.Prelude.{◌≡◌, ◌++◌, None as nothing, drop, length, map};
+ghost use Rattle.std.specs.Prelude.{◌≡◌, ◌++◌, drop, length, map};
 
 use exported::{Found, Refusal, Written};
 
@@ -154,21 +151,4 @@ pub extern "C" fn mesh_corners_colours(
     ensures written { Becomes (corners_refusal colour_verdict (mesh_of corners.now friends.now marks.now starts.now) rows.now (length out.old)) out.old (map colour_row (corners_of colour_middle (values_made colour_verdict rows.now))) out.new }
 {
     exported::next_level::mesh_corners_colours(corners, friends, marks, starts, rows, out)
-}
-
-// Makes a bench over these words and asks it row by row, as many rows as there is room for answers; a slip that is still held then is withdrawn.
-// What stands at the end is copied to `out`.
-#[unsafe(no_mangle)]
-pub extern "C" fn mesh_work(
-    words: &mut [u32],
-    mark: u32,
-    store: &[u32],
-    rows: &[[u32; 6]],
-    answers: &mut [[u32; 3]],
-    out: &mut [u32],
-)
-    ensures gave { answers.new ≡ over (map numbers_of (replies store.now (record { bench = made (length words.old) mark; held = nothing }) (requests_of (length answers.old) rows.now))) answers.old }
-    ensures level { out.new ≡ copied (run_on (made (length words.old) mark) (all_calls store.now (made (length words.old) mark) (requests_of (length answers.old) rows.now))).standing out.old }
-{
-    exported_work::mesh_work(words, mark, store, rows, answers, out);
 }
