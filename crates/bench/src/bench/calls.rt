@@ -1,4 +1,4 @@
-ghost use Rattle.std.specs.Prelude.{length};
+ghost use Rattle.std.specs.Prelude.{◌≡◌, false, length, IfOk, IfErr};
 ghost use Rattle.mesh.specs.Refusals.{told};
 ghost use Rattle.chain.specs.Calls.{load, begin, quad as quad_call, point as point_call, finish, left};
 ghost use Rattle.chain.specs.Clauses.{Called, Made};
@@ -57,6 +57,7 @@ impl<'a> Bench<'a> {
     pub fn begin(&mut self) -> Result<Slip, Fault>
         ensures call { Called (state self.old) begin (state self.new) (told result) }
         ensures slip { Bears result self.old.mark }
+        ensures unspent { IfOk result (λ s. s.spent ≡ false) }
     {
         match self.stage {
             Stage::Working => Err(Fault::LevelInWork),
@@ -129,6 +130,7 @@ impl<'a> Bench<'a> {
     pub fn finish(&mut self, slip: Slip) -> Result<(), Declined>
         ensures call { Called (state self.old) (finish slip.mark) (state self.new) (told_slip result) }
         ensures slip { ComesBack result slip.mark }
+        ensures unspent { IfErr result (λ d. d.slip.spent ≡ slip.spent) }
     {
         match self.stage {
             Stage::Empty => Err(Declined {

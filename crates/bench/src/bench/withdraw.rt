@@ -1,3 +1,4 @@
+ghost use Rattle.std.specs.Prelude.{◌≡◌, IfErr};
 ghost use Rattle.chain.specs.Calls.{withdraw};
 ghost use Rattle.chain.specs.Clauses.{Called};
 ghost use Rattle.bench.specs.Model.{state, told_slip, ComesBack};
@@ -12,6 +13,7 @@ impl<'a> Bench<'a> {
     pub fn withdraw(&mut self, slip: Slip) -> Result<(), Declined>
         ensures call { Called (state self.old) (withdraw slip.mark) (state self.new) (told_slip result) }
         ensures slip { ComesBack result slip.mark }
+        ensures unspent { IfErr result (λ d. d.slip.spent ≡ slip.spent) }
     {
         match self.stage {
             Stage::Empty => Err(Declined {

@@ -8,17 +8,17 @@ use Rattle.bench.proofs.bench.Bench.finish.Goals as goal
 pub returns-in-Empty : goal.returns-in-Empty
 returns-in-Empty c =
     let b = c.args.self.now in
-    record { call = refused_at b.mark b.quads b.points b.words.cells.now b.stage Empty c.in-Empty.is (finish_call c.args.slip.mark) 12 0 refl; slip = refl }
+    record { call = refused_at b.mark b.quads b.points b.words.cells.now b.stage Empty c.in-Empty.is (finish_call c.args.slip.mark) 12 0 refl; slip = refl; unspent = refl }
 
 pub returns-in-Standing : goal.returns-in-Standing
 returns-in-Standing c =
     let b = c.args.self.now in
-    record { call = refused_at b.mark b.quads b.points b.words.cells.now b.stage Standing c.in-Standing.is (finish_call c.args.slip.mark) 15 0 refl; slip = refl }
+    record { call = refused_at b.mark b.quads b.points b.words.cells.now b.stage Standing c.in-Standing.is (finish_call c.args.slip.mark) 15 0 refl; slip = refl; unspent = refl }
 
 pub returns-then-mark-self : goal.returns-then-mark-self
 returns-then-mark-self c =
     let b = c.args.self.now in
-    record { call = finish_other b.mark b.quads b.points b.words.cells.now b.stage c.args.slip.mark c.in-Working.is (λ e. c.if-mark-self.true (c.mark.ensures ∙ e)); slip = refl }
+    record { call = finish_other b.mark b.quads b.points b.words.cells.now b.stage c.args.slip.mark c.in-Working.is (λ e. c.if-mark-self.true (c.mark.ensures ∙ e)); slip = refl; unspent = refl }
 
 pub returns-then-lowest-quads : goal.returns-then-lowest-quads
 returns-then-lowest-quads c =
@@ -26,6 +26,7 @@ returns-then-lowest-quads c =
     record {
       call = not_run b.mark b.quads b.points b.words.cells.now b.stage c.args.slip.mark _ c.in-Working.is (sym c.mark.ensures ∙ c.if-mark-self.false) c.lowest-lowest.ensures c.if-lowest-quads.true;
       slip = refl;
+      unspent = refl;
     }
 
 pub invariant_of-self : goal.invariant_of-self
@@ -40,4 +41,5 @@ returns-else-lowest-quads c =
     record {
       call = finish_carried b.mark b.quads b.points b.words.cells.now b.stage c.args.slip.mark _ c.in-Working.is (sym c.mark.ensures ∙ c.if-mark-self.false) (omega (arith, c.lowest-lowest.ensures)) room c.bring_down.ensures;
       slip = tt;
+      unspent = tt;
     }
