@@ -1,4 +1,4 @@
--- The code's two operations are those of `halfway-of`; the literal 0.5 is its bit pattern.
+-- The code's two operations are those of `halfway_of`; the literal 0.5 is its bit pattern.
 use Rattle.std.proofs.Common.{refl}
 use lib.Ieee.{of_bits}
 use Rattle.attributes.specs.Halfway.{halfway_of}
