@@ -5,6 +5,5 @@ pub mod Walks
 pub mod Rounds
 pub mod Creases
 pub mod Slots
-pub mod Sides
 pub mod Asks
 pub mod OneLevel

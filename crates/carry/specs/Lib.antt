@@ -5,4 +5,3 @@ pub mod Walks
 pub mod Slots
 pub mod Asked
 pub mod OneLevel
-pub mod Sides

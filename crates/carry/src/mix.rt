@@ -1,21 +1,20 @@
 // Parts added to a running mix by their points, and the blends of face points and of edge points.
-ghost use Rattle.std.specs.Prelude.{◌≡◌, ℕ, ◌+◌, ◌*◌, ◌<◌, ◌≤◌, min, List, [], ◌∷◌, ◌++◌, length, slice_index_or};
+ghost use Rattle.std.specs.Prelude.{◌≡◌, ℕ, ◌+◌, ◌*◌, ◌<◌, ◌≤◌, min, List, [], ◌∷◌, ◌++◌, length};
 ghost use Rattle.carried.specs.Blends.{edge as edge_parts, face as face_parts};
 ghost use Rattle.kinds.specs.Parts.{most_weight, total};
 ghost use Rattle.mesh.specs.Marks.{word_of};
-ghost use Rattle.mesh.specs.Mesh.{Lawful, Mesh, point as point_of};
+ghost use Rattle.mesh.specs.Mesh.{Lawful, point as point_of};
 ghost use Rattle.mesh.specs.Refusals.{fine};
 ghost use Rattle.tables.specs.Edges.{RecordOf};
 ghost use Rattle.tables.specs.Lent.{mesh};
 ghost use Rattle.carry.specs.Mixes.{Mixed, Ready, blend};
 ghost use Rattle.carry.specs.Rows.{made, rows_refusal};
-ghost use Rattle.carry.specs.Sides.{AtCorner, EdgeHas, QuadHas};
 
 use crate::rows::value_at;
 use kinds::row::Rowed;
 use kinds::value::{ValueKind, add_part};
 use mesh::mark::Mark;
-use mesh::number::{Corner, OffEdge, Point};
+use mesh::number::{Corner, OffEdge, Point, Quad};
 use tables::corner::other_end;
 use tables::edge::EdgeRecord;
 use tables::lent::Tables;
@@ -49,35 +48,18 @@ pub(crate) fn record_of<'a>(tables: &Tables<'a>, off: OffEdge) -> EdgeRecord
     tables.edge(off).unwrap()
 }
 
-// Adds a value that is at hand.
-fn add_known<K: ValueKind>(value: &K, weight: u32, mix: &mut K::Mix)
-    ensures { (xs : List K) (p : ℕ) (ps : List (ℕ × ℕ)) → value.now ≡ slice_index_or xs p (K.blended []) → Mixed K.blended K.holds xs mix.old ps → total ps + weight ≤ most_weight → Mixed K.blended K.holds xs mix.new (ps ++ (p, weight) ∷ []) }
-{
-    add_part(mix, value, weight);
-}
-
-// The value at a corner.
-pub(crate) fn corner_value<'a, K: ValueKind>(
-    tables: &Tables<'a>,
-    rows: &[K::Row],
-    corner: Corner,
-) -> K
+// The blend of the face point of a quad.
+pub(crate) fn face<'a, K: ValueKind>(tables: &Tables<'a>, rows: &[K::Row], quad: Quad) -> K
     requires ready { Ready K.Rowed.verdict (mesh tables.now) rows.now }
-    requires within { corner.0 < 4 * (mesh tables.now).quads }
-    ensures { AtCorner K.blended (mesh tables.now) (made K.Rowed.verdict rows.now) corner.0 result }
+    requires within { quad.0 < (mesh tables.now).quads }
+    ensures { result ≡ blend K.blended (made K.Rowed.verdict rows.now) (face_parts (mesh tables.now) quad.0) }
 {
-    value_at::<K>(rows, point_at(tables, corner).0 as usize)
-}
-
-// The blend of the face point of a quad with these values at its corners.
-pub(crate) fn face<K: ValueKind>(first: &K, second: &K, third: &K, fourth: &K) -> K
-    ensures { (m : Mesh) (xs : List K) (q : ℕ) → QuadHas K.blended m xs q first.now second.now third.now fourth.now → result ≡ blend K.blended xs (face_parts m q) }
-{
+    let first = 4 * quad.0;
     let mut mix = K::start();
-    add_known(first, 1, &mut mix);
-    add_known(second, 1, &mut mix);
-    add_known(third, 1, &mut mix);
-    add_known(fourth, 1, &mut mix);
+    add_at::<K>(rows, point_at(tables, Corner(first)), 1, &mut mix);
+    add_at::<K>(rows, point_at(tables, Corner(first + 1)), 1, &mut mix);
+    add_at::<K>(rows, point_at(tables, Corner(first + 2)), 1, &mut mix);
+    add_at::<K>(rows, point_at(tables, Corner(first + 3)), 1, &mut mix);
     K::finish(mix)
 }
 
@@ -95,31 +77,29 @@ fn capped(mark: Mark) -> u32
     }
 }
 
-// The blend of the edge point of an off-edge, with the values at the corners of its quad.
-pub(crate) fn edge<'a, K: ValueKind>(
-    tables: &Tables<'a>,
-    rows: &[K::Row],
-    off: OffEdge,
-    along: &EdgeRecord,
-    begin: &K,
-    end: &K,
-    low: &K,
-    high: &K,
-) -> K
+// The blend of the edge point of an off-edge.
+pub(crate) fn edge<'a, K: ValueKind>(tables: &Tables<'a>, rows: &[K::Row], off: OffEdge) -> K
     requires ready { Ready K.Rowed.verdict (mesh tables.now) rows.now }
-    requires recorded { RecordOf (mesh tables.now) off.0 along.now }
-    requires sides { EdgeHas K.blended (mesh tables.now) (made K.Rowed.verdict rows.now) off.0 begin.now end.now low.now high.now }
+    requires within { off.0 < 2 * (mesh tables.now).quads }
     ensures { result ≡ blend K.blended (made K.Rowed.verdict rows.now) (edge_parts (mesh tables.now) off.0) }
 {
-    let a = capped(along.mark);
+    let record = record_of(tables, off);
+    let a = capped(record.mark);
     let near = 6 * (256 - a) + 8 * a;
     let far = 256 - a;
-    let from = 2 * along.friend.0;
+    let first = 4 * (off.0 / 2);
+    let side = off.0 % 2;
+    let from = 2 * record.friend.0;
     let mut mix = K::start();
-    add_known(begin, near, &mut mix);
-    add_known(end, near, &mut mix);
-    add_known(low, far, &mut mix);
-    add_known(high, far, &mut mix);
+    add_at::<K>(rows, record.begin, near, &mut mix);
+    add_at::<K>(rows, record.end, near, &mut mix);
+    add_at::<K>(rows, point_at(tables, Corner(first + side)), far, &mut mix);
+    add_at::<K>(
+        rows,
+        point_at(tables, Corner(first + (3 - side))),
+        far,
+        &mut mix,
+    );
     add_at::<K>(
         rows,
         point_at(tables, other_end(Corner(from))),

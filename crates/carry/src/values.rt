@@ -8,16 +8,15 @@ ghost use Rattle.refinement.specs.Tasks.{edge_slot, face_slot, old_slot};
 ghost use Rattle.tables.specs.Lent.{mesh};
 ghost use Rattle.carry.specs.Mixes.{Ready};
 ghost use Rattle.carry.specs.Rows.{made, refusal};
-ghost use Rattle.carry.specs.Sides.{EdgeHas};
 ghost use Rattle.carry.specs.Slots.{RightAt};
 
-use crate::mix::{corner_value, edge, face, record_of};
+use crate::mix::{edge, face, record_of};
 use crate::moved::moved;
 use crate::rows::judge;
 use kinds::row::Rowed;
 use kinds::value::ValueKind;
 use mesh::fault::Fault;
-use mesh::number::{Corner, OffEdge, Point, Quad};
+use mesh::number::{OffEdge, Point, Quad};
 use tables::lent::Tables;
 use tables::slot::{edge_slot, face_slot, old_slot};
 
@@ -42,78 +41,29 @@ fn put_moved<'a, K: ValueKind>(tables: &Tables<'a>, rows: &[K::Row], out: &mut [
     }
 }
 
-// Writes the row of the edge point of an off-edge.
-fn put_edge<'a, K: ValueKind>(
-    tables: &Tables<'a>,
-    rows: &[K::Row],
-    off: OffEdge,
-    begin: &K,
-    end: &K,
-    low: &K,
-    high: &K,
-    out: &mut [K::Row],
-)
-    requires ready { Ready K.Rowed.verdict (mesh tables.now) rows.now }
-    requires room { length out.old ≡ (mesh tables.now).points + 3 * (mesh tables.now).quads }
-    requires within { off.0 < 2 * (mesh tables.now).quads }
-    requires sides { EdgeHas K.blended (mesh tables.now) (made K.Rowed.verdict rows.now) off.0 begin.now end.now low.now high.now }
-    ensures kept { (s : ℕ) → RightAt K.Rowed.row K.blended (mesh tables.now) (made K.Rowed.verdict rows.now) out.old s → RightAt K.Rowed.row K.blended (mesh tables.now) (made K.Rowed.verdict rows.now) out.new s }
-    ensures right { RightAt K.Rowed.row K.blended (mesh tables.now) (made K.Rowed.verdict rows.now) out.new (edge_slot (friend_of (mesh tables.now) off.0)) }
-{
-    let record = record_of(tables, off);
-    let value = edge::<K>(tables, rows, off, &record, begin, end, low, high);
-    put(out, edge_slot(record.friend), &value);
-}
-
-// Writes the rows of a quad's face point and of the points of its two off-edges. The values at its corners are made once for all three.
-fn put_quad<'a, K: ValueKind>(tables: &Tables<'a>, rows: &[K::Row], quad: Quad, out: &mut [K::Row])
-    requires ready { Ready K.Rowed.verdict (mesh tables.now) rows.now }
-    requires room { length out.old ≡ (mesh tables.now).points + 3 * (mesh tables.now).quads }
-    requires within { quad.0 < (mesh tables.now).quads }
-    ensures kept { (s : ℕ) → RightAt K.Rowed.row K.blended (mesh tables.now) (made K.Rowed.verdict rows.now) out.old s → RightAt K.Rowed.row K.blended (mesh tables.now) (made K.Rowed.verdict rows.now) out.new s }
-    ensures face { RightAt K.Rowed.row K.blended (mesh tables.now) (made K.Rowed.verdict rows.now) out.new (face_slot quad.0) }
-    ensures even { RightAt K.Rowed.row K.blended (mesh tables.now) (made K.Rowed.verdict rows.now) out.new (edge_slot (friend_of (mesh tables.now) (2 * quad.0))) }
-    ensures odd { RightAt K.Rowed.row K.blended (mesh tables.now) (made K.Rowed.verdict rows.now) out.new (edge_slot (friend_of (mesh tables.now) (2 * quad.0 + 1))) }
-{
-    let c = 4 * quad.0;
-    let first = corner_value::<K>(tables, rows, Corner(c));
-    let second = corner_value::<K>(tables, rows, Corner(c + 1));
-    let third = corner_value::<K>(tables, rows, Corner(c + 2));
-    let fourth = corner_value::<K>(tables, rows, Corner(c + 3));
-    let value = face(&first, &second, &third, &fourth);
-    put(out, face_slot(quad), &value);
-    let off = 2 * quad.0;
-    put_edge::<K>(
-        tables,
-        rows,
-        OffEdge(off),
-        &second,
-        &third,
-        &first,
-        &fourth,
-        out,
-    );
-    put_edge::<K>(
-        tables,
-        rows,
-        OffEdge(off + 1),
-        &fourth,
-        &first,
-        &second,
-        &third,
-        out,
-    );
-}
-
-fn put_quads<'a, K: ValueKind>(tables: &Tables<'a>, rows: &[K::Row], out: &mut [K::Row])
+fn put_faces<'a, K: ValueKind>(tables: &Tables<'a>, rows: &[K::Row], out: &mut [K::Row])
     requires ready { Ready K.Rowed.verdict (mesh tables.now) rows.now }
     requires room { length out.old ≡ (mesh tables.now).points + 3 * (mesh tables.now).quads }
     ensures kept { (s : ℕ) → RightAt K.Rowed.row K.blended (mesh tables.now) (made K.Rowed.verdict rows.now) out.old s → RightAt K.Rowed.row K.blended (mesh tables.now) (made K.Rowed.verdict rows.now) out.new s }
-    ensures faces { (q : ℕ) → q < (mesh tables.now).quads → RightAt K.Rowed.row K.blended (mesh tables.now) (made K.Rowed.verdict rows.now) out.new (face_slot q) }
-    ensures edges { (o : ℕ) → o < 2 * (mesh tables.now).quads → RightAt K.Rowed.row K.blended (mesh tables.now) (made K.Rowed.verdict rows.now) out.new (edge_slot (friend_of (mesh tables.now) o)) }
+    ensures right { (q : ℕ) → q < (mesh tables.now).quads → RightAt K.Rowed.row K.blended (mesh tables.now) (made K.Rowed.verdict rows.now) out.new (face_slot q) }
 {
     for q in 0..tables.quads() {
-        put_quad::<K>(tables, rows, Quad(q as u32), out);
+        let quad = Quad(q as u32);
+        let value = face::<K>(tables, rows, quad);
+        put(out, face_slot(quad), &value);
+    }
+}
+
+fn put_edges<'a, K: ValueKind>(tables: &Tables<'a>, rows: &[K::Row], out: &mut [K::Row])
+    requires ready { Ready K.Rowed.verdict (mesh tables.now) rows.now }
+    requires room { length out.old ≡ (mesh tables.now).points + 3 * (mesh tables.now).quads }
+    ensures kept { (s : ℕ) → RightAt K.Rowed.row K.blended (mesh tables.now) (made K.Rowed.verdict rows.now) out.old s → RightAt K.Rowed.row K.blended (mesh tables.now) (made K.Rowed.verdict rows.now) out.new s }
+    ensures right { (o : ℕ) → o < 2 * (mesh tables.now).quads → RightAt K.Rowed.row K.blended (mesh tables.now) (made K.Rowed.verdict rows.now) out.new (edge_slot (friend_of (mesh tables.now) o)) }
+{
+    for o in 0..2 * tables.quads() {
+        let off = OffEdge(o as u32);
+        let value = edge::<K>(tables, rows, off);
+        put(out, edge_slot(record_of(tables, off).friend), &value);
     }
 }
 
@@ -131,6 +81,7 @@ pub(crate) fn carry<'a, K: ValueKind>(
     let points = tables.starts.len();
     judge::<K>(quads, points, points + 3 * quads, rows, out.len())?;
     put_moved::<K>(tables, rows, out);
-    put_quads::<K>(tables, rows, out);
+    put_faces::<K>(tables, rows, out);
+    put_edges::<K>(tables, rows, out);
     Ok(())
 }

@@ -33,9 +33,17 @@ put_moved-requires g c =
     let n = a.enough in
     record { ready = record { lawful = c.requires; count = a.count; all = a.all }; room = omega arith }
 
-pub put_quads-requires : goal.put_quads-requires
+pub put_faces-requires : goal.put_faces-requires
 unfolding mesh_of
-put_quads-requires g c =
+put_faces-requires g c =
+    let a = accepted _ _ _ _ _ _ c.in_ok-judge.ensures in
+    let e = c.quads-quads.ensures in
+    let n = a.enough in
+    record { ready = record { lawful = c.requires; count = a.count; all = a.all }; room = omega arith }
+
+pub put_edges-requires : goal.put_edges-requires
+unfolding mesh_of
+put_edges-requires g c =
     let a = accepted _ _ _ _ _ _ c.in_ok-judge.ensures in
     let e = c.quads-quads.ensures in
     let n = a.enough in
@@ -49,10 +57,11 @@ returns g c =
     let a = accepted _ _ _ _ _ _ c.in_ok-judge.ensures in
     let e = c.quads-quads.ensures in
     let enough = a.enough in
+    let kept = c.put_edges.ensures.kept in
     record {
       verdict = c.in_ok-judge.ensures ∙ ap (λ q. refusal g.K.Rowed.verdict q n (n + 3 * q) c.args.rows.now (length c.args.out.now)) c.quads-quads.ensures;
-      written = all_right g.K.Rowed.row g.K.ValueKind.blended m (made g.K.Rowed.verdict c.args.rows.now) c.requires c.put_quads.new.out (omega arith)
-          (λ v l. c.put_quads.ensures.kept _ (c.put_moved.ensures v l))
-          c.put_quads.ensures.faces
-          c.put_quads.ensures.edges;
+      written = all_right g.K.Rowed.row g.K.ValueKind.blended m (made g.K.Rowed.verdict c.args.rows.now) c.requires c.put_edges.new.out (omega arith)
+          (λ v l. kept _ (c.put_faces.ensures.kept _ (c.put_moved.ensures v l)))
+          (λ q l. kept _ (c.put_faces.ensures.right q l))
+          c.put_edges.ensures.right;
     }
