@@ -17,10 +17,8 @@ mod tests {
     use bench::bench::Bench;
     use bench::level::Level;
     use mesh::number::{Point, Quad};
-    use questions::Questions;
     use requests::perform::work;
     use requests::request::{Answer, Extent, Request};
-    use std::test::*;
 
     // Two quads back to back: corners, friends, marks, starts.
     const STORE: [u32; 20] = [0, 1, 2, 3, 2, 1, 0, 3, 2, 3, 0, 1, 0, 0, 0, 0, 0, 1, 2, 3];
@@ -44,7 +42,7 @@ mod tests {
     }
 
     #[test]
-    fn the_pillow_needs_20_words(rt: HostRuntime) -> Result<(), Fail> {
+    fn the_pillow_needs_20_words(rt: HostRuntime) {
         let mut answers = [Answer::Nothing; 1];
         let mut few = [0; 19];
         let mut bench = Bench::new(&mut few, 7);
@@ -55,11 +53,10 @@ mod tests {
         work(&mut bench, &STORE, &[PILLOW], &mut answers);
         assert_eq!(rt; shown(answers[0]), (0, 99));
         assert_eq!(rt; bench.counts(Level::Standing).unwrap_or((0, 0)), (2, 4));
-        Ok(())
     }
 
     #[test]
-    fn a_begin_needs_100_words(rt: HostRuntime) -> Result<(), Fail> {
+    fn a_begin_needs_100_words(rt: HostRuntime) {
         let mut answers = [Answer::Nothing; 2];
         let mut few = [0; 99];
         let mut bench = Bench::new(&mut few, 7);
@@ -69,11 +66,10 @@ mod tests {
         let mut bench = Bench::new(&mut enough, 7);
         work(&mut bench, &STORE, &[PILLOW, Request::Begin], &mut answers);
         assert_eq!(rt; shown(answers[1]), (0, 99));
-        Ok(())
     }
 
     #[test]
-    fn refusals_have_places(rt: HostRuntime) -> Result<(), Fail> {
+    fn refusals_have_places(rt: HostRuntime) {
         let mut answers = [Answer::Nothing; 12];
         let mut words = [0; 100];
         let mut bench = Bench::new(&mut words, 7);
@@ -102,7 +98,6 @@ mod tests {
         assert_eq!(rt; shown(answers[9]), (0, 5));
         assert_eq!(rt; shown(answers[10]), (18, 1));
         assert_eq!(rt; shown(answers[11]), (0, 99));
-        Ok(())
     }
 
     // The words that these requests leave of 100.
@@ -115,7 +110,7 @@ mod tests {
     }
 
     #[test]
-    fn tasks_run_in_any_order(rt: HostRuntime) -> Result<(), Fail> {
+    fn tasks_run_in_any_order(rt: HostRuntime) {
         let forward = left_by(&[
             PILLOW,
             Request::Begin,
@@ -148,6 +143,5 @@ mod tests {
             (forward[0], forward[1], forward[2], forward[3]),
             (0, 2, 1, 7)
         );
-        Ok(())
     }
 }

@@ -10,7 +10,6 @@ use bench::bench::Bench;
 use bench::level::Level;
 use mesh::fault::Fault;
 use mesh::number::{Point, Quad};
-use questions::Questions;
 
 // The tasks of so many quads, by number.
 fn run_quads(bench: &mut Bench<'_>, quads: u32)
