@@ -39,8 +39,6 @@ pub(crate) fn rounded(sum: i64, over: u32) -> i32
 }
 
 // The rounded quotient is nearest, no other number is as near, and it keeps the bounds of the sum.
-pub fn rounded_once() -> u8
+pub fn rounded_once()
     ensures { RoundedOnce }
-{
-    0
-}
+{}

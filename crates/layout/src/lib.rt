@@ -4,27 +4,19 @@
 ghost use Rattle.layout.specs.Laws.{BeginsWrite, FinishesWrite, LoadsWrite, TasksWrite};
 
 // A task changes its own words of the level in work, and no others.
-pub fn tasks_write() -> u8
+pub fn tasks_write()
     ensures { TasksWrite }
-{
-    0
-}
+{}
 
 // A load, a begin and a finish lay words side by side, which are the levels that they should be.
-pub fn loads_write() -> u8
+pub fn loads_write()
     ensures { LoadsWrite }
-{
-    0
-}
+{}
 
-pub fn begins_write() -> u8
+pub fn begins_write()
     ensures { BeginsWrite }
-{
-    0
-}
+{}
 
-pub fn finishes_write() -> u8
+pub fn finishes_write()
     ensures { FinishesWrite }
-{
-    0
-}
+{}

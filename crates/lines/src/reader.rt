@@ -192,8 +192,6 @@ pub fn read(
 }
 
 // Reading gives an outcome exactly where the text is as that outcome tells.
-pub fn reading_is_exact() -> u8
+pub fn reading_is_exact()
     ensures { ReadingIsExact }
-{
-    0
-}
+{}

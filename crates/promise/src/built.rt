@@ -12,15 +12,15 @@ use attributes::influence::Influence;
 use attributes::texture::Texture;
 
 // Coordinates stay in every box that held them all, and texture seams that met still meet.
-pub fn coordinates_and_textures_kept() -> u8
+pub fn coordinates_and_textures_kept()
     ensures { EveryChainKeepsAll inside blend_of middle_pair }
 {
-    every_chain_keeps_all::<Coordinates, Texture>()
+    every_chain_keeps_all::<Coordinates, Texture>();
 }
 
 // Influences stay inside every set that held them all, and colours that met still meet.
-pub fn influences_and_colours_kept() -> u8
+pub fn influences_and_colours_kept()
     ensures { EveryChainKeepsAll Subset union middle_colour }
 {
-    every_chain_keeps_all::<Influence, Colour>()
+    every_chain_keeps_all::<Influence, Colour>();
 }

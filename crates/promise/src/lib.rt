@@ -10,8 +10,6 @@ pub mod built;
 pub mod performed;
 
 // After every list of calls the mesh is kept, values that are carried along stay in range, and seams that met still meet.
-pub fn every_chain_keeps_all<K: ValueKind, C: CornerKind>() -> u8
+pub fn every_chain_keeps_all<K: ValueKind, C: CornerKind>()
     ensures { EveryChainKeepsAll K.ValueKind.lies K.ValueKind.blended C.CornerKind.middle }
-{
-    0
-}
+{}

@@ -65,8 +65,6 @@ pub fn mesh_refine_step(input: &[u8], output: &mut [u8]) -> usize
 }
 
 // A lawful mesh that is not too large is answered by its refinement.
-pub fn step_refines() -> u8
+pub fn step_refines()
     ensures { StepRefines }
-{
-    0
-}
+{}

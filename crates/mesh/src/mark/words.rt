@@ -56,8 +56,6 @@ impl Mark {
 }
 
 // Marks and their words are each other's image: every mark has a lawful word, and no other mark has the same.
-pub fn marks_are_words() -> u8
+pub fn marks_are_words()
     ensures { MarksAreWords }
-{
-    0
-}
+{}
