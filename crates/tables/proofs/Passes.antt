@@ -41,6 +41,13 @@ each_then k ok n rest = elim (found ok n) [
   | first p l f t ↦ ap (λ v. then v rest) (each_fault k ok n fine p l f t) ∙ sym (each_fault k ok n rest p l f t)
 ]
 
+-- the verdict of a test that fails first at p, and of one that fails nowhere
+pub first_at : (k : ℕ) (ok : ℕ → Bool) (n p : ℕ) → p < n → ok p ≡ false → ((i : ℕ) → i < p → ok i ≡ true) → declined k p ≡ each k ok n fine
+first_at k ok n p l f t = sym (each_fault k ok n fine p l f t)
+
+pub nowhere : (k : ℕ) (ok : ℕ → Bool) (n : ℕ) → ((i : ℕ) → i < n → ok i ≡ true) → fine ≡ each k ok n fine
+nowhere k ok n t = sym (each_on k ok n fine t)
+
 -- what a test that found nothing tells
 pub once_passed : (k : ℕ) (ok : Bool) → fine ≡ once k ok fine → ok ≡ true
 once_passed k ok e = elim (cases_Bool ok) [ inl t ↦ t | inr f ↦ absurd (not_fine k 0 (e ∙ once_fault k ok fine f)) ]

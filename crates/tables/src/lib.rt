@@ -1,5 +1,5 @@
 // Code over the four tables of a mesh, lent: the record of an off-edge, steps, and whether the tables are a lawful mesh.
-#![tactic(auto)]
+#![tactic(auto, unfolding(mesh::specs::Causes::mesh_of))]
 
 pub mod corner;
 pub mod edge;
