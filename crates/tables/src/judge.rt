@@ -1,12 +1,12 @@
 // Whether tables are a lawful mesh: ten causes to decline them, each tried at every place before the next.
-// The contract of each pass is the verdict of its own test, with no other after it.
+// The contract of each pass is the verdict of its own test, before any other.
 ghost use Rattle.std.specs.Prelude.{◌≡◌, ℕ, ◌*◌, ◌<◌, ◌≤◌, IfOk, MatchOption};
-ghost use Rattle.mesh.specs.Causes.{once, each, shape_ok, quads_ok, points_ok, corner_ok, friend_ok, mark_ok, back_ok, start_ok, walk_ok, judge};
+ghost use Rattle.mesh.specs.Causes.{once, each, shape_ok, quads_ok, points_ok, corner_ok, friend_ok, mark_ok, back_ok, start_ok, walk_ok, all_met, judge};
 ghost use Rattle.mesh.specs.Count.{total};
 ghost use Rattle.mesh.specs.Mesh.{longest, start, step, valence};
-ghost use Rattle.mesh.specs.Refusals.{told, fine};
+ghost use Rattle.mesh.specs.Refusals.{Verdict, fine, told};
 ghost use Rattle.tables.specs.Lent.{mesh};
-ghost use Rattle.tables.specs.Passed.{Sized, Worded, Started};
+ghost use Rattle.tables.specs.Passed.{Sized, Worded, Started, told_or};
 
 use crate::corner::off_edge;
 use crate::lent::{FEWEST_QUADS, MOST_QUADS, Tables};
@@ -20,10 +20,9 @@ const SHORTEST: u32 = 2;
 const LONGEST: u32 = 64;
 
 impl<'a> Tables<'a> {
-    #[tactic(auto, using(std::proofs::lemmas::Bool::Decides::nat_tests), unfolding(mesh::specs::Causes::mesh_of, mesh::specs::Causes::once, mesh::specs::Causes::shape_ok))]
     // 1: the tables have the lengths that go together.
     fn judge_shape(&self) -> Result<(), Fault>
-        ensures { told result ≡ once 1 (shape_ok (mesh self.now)) fine }
+        ensures { (rest : Verdict) → told_or result rest ≡ once 1 (shape_ok (mesh self.now)) rest }
     {
         let quads = self.quads();
         if self.corners.len() != 4 * quads
@@ -35,25 +34,23 @@ impl<'a> Tables<'a> {
         Ok(())
     }
 
-    #[tactic(auto, using(std::proofs::lemmas::Bool::Decides::nat_tests), unfolding(mesh::specs::Causes::once, mesh::specs::Causes::quads_ok))]
     // 2: so many quads.
     fn judge_quads(&self) -> Result<(), Fault>
-        ensures { told result ≡ once 2 (quads_ok (mesh self.now)) fine }
+        ensures { (rest : Verdict) → told_or result rest ≡ once 2 (quads_ok (mesh self.now)) rest }
     {
         let quads = self.quads();
-        if quads < FEWEST_QUADS || quads > MOST_QUADS {
+        if !(FEWEST_QUADS..=MOST_QUADS).contains(&quads) {
             return Err(Fault::QuadCount);
         }
         Ok(())
     }
 
-    #[tactic(auto, using(std::proofs::lemmas::Bool::Decides::nat_tests), unfolding(mesh::specs::Causes::mesh_of, mesh::specs::Causes::once, mesh::specs::Causes::points_ok))]
     // 3: so many points.
     fn judge_points(&self) -> Result<(), Fault>
-        ensures { told result ≡ once 3 (points_ok (mesh self.now)) fine }
+        ensures { (rest : Verdict) → told_or result rest ≡ once 3 (points_ok (mesh self.now)) rest }
     {
         let quads = self.quads();
-        if self.starts.len() < quads || self.starts.len() > 2 * quads {
+        if !(quads..=2 * quads).contains(&self.starts.len()) {
             return Err(Fault::PointCount);
         }
         Ok(())
@@ -62,7 +59,7 @@ impl<'a> Tables<'a> {
     // 4: every corner names a point.
     fn judge_corners(&self) -> Result<(), Fault>
         requires { Sized (mesh self.now) }
-        ensures { told result ≡ each 4 (corner_ok (mesh self.now)) (4 * (mesh self.now).quads) fine }
+        ensures { (rest : Verdict) → told_or result rest ≡ each 4 (corner_ok (mesh self.now)) (4 * (mesh self.now).quads) rest }
     {
         let points = self.starts.len();
         match self.corners.iter().position(|v| *v as usize >= points) {
@@ -74,7 +71,7 @@ impl<'a> Tables<'a> {
     // 5: every off-edge has an edge for friend.
     fn judge_friends(&self) -> Result<(), Fault>
         requires { Sized (mesh self.now) }
-        ensures { told result ≡ each 5 (friend_ok (mesh self.now)) (2 * (mesh self.now).quads) fine }
+        ensures { (rest : Verdict) → told_or result rest ≡ each 5 (friend_ok (mesh self.now)) (2 * (mesh self.now).quads) rest }
     {
         let edges = 2 * self.quads();
         match self.friends.iter().position(|g| *g as usize >= edges) {
@@ -86,7 +83,7 @@ impl<'a> Tables<'a> {
     // 6: every mark word stands for a mark.
     fn judge_marks(&self) -> Result<(), Fault>
         requires { Sized (mesh self.now) }
-        ensures { told result ≡ each 6 (mark_ok (mesh self.now)) (2 * (mesh self.now).quads) fine }
+        ensures { (rest : Verdict) → told_or result rest ≡ each 6 (mark_ok (mesh self.now)) (2 * (mesh self.now).quads) rest }
     {
         match self.marks.iter().position(|w| Mark::try_from(*w).is_err()) {
             Some(o) => Err(Fault::NoMark(OffEdge(o as u32))),
@@ -94,7 +91,6 @@ impl<'a> Tables<'a> {
         }
     }
 
-    #[tactic(auto, using(std::proofs::lemmas::Bool::Decides::nat_tests), unfolding(mesh::specs::Causes::mesh_of, mesh::specs::Causes::back_ok))]
     // Whether the friend of an off-edge runs the other way.
     fn runs_back(&self, off: OffEdge) -> bool
         requires { (Worded (mesh self.now)) × (off.0 < 2 * (mesh self.now).quads) }
@@ -108,7 +104,7 @@ impl<'a> Tables<'a> {
     // 7: every friend runs the other way.
     fn judge_pairs(&self) -> Result<(), Fault>
         requires { Worded (mesh self.now) }
-        ensures { told result ≡ each 7 (back_ok (mesh self.now)) (2 * (mesh self.now).quads) fine }
+        ensures { (rest : Verdict) → told_or result rest ≡ each 7 (back_ok (mesh self.now)) (2 * (mesh self.now).quads) rest }
     {
         let unopposed = |(o, _): (usize, &u32)| !self.runs_back(OffEdge(o as u32));
         match self.friends.iter().enumerate().position(unopposed) {
@@ -120,7 +116,7 @@ impl<'a> Tables<'a> {
     // 8: every point has a corner of its own to start from.
     fn judge_starts(&self) -> Result<(), Fault>
         requires { Sized (mesh self.now) }
-        ensures { told result ≡ each 8 (start_ok (mesh self.now)) (mesh self.now).points fine }
+        ensures { (rest : Verdict) → told_or result rest ≡ each 8 (start_ok (mesh self.now)) (mesh self.now).points rest }
     {
         let elsewhere = |(v, c): (usize, &u32)| {
             self.corners.get(*c as usize).map(|p| *p as usize) != Some(v)
@@ -158,7 +154,7 @@ impl<'a> Tables<'a> {
     // 9: every walk is back in time. The steps of all together.
     fn judge_walks(&self) -> Result<u32, Fault>
         requires { Started (mesh self.now) }
-        ensures verdict { told result ≡ each 9 (walk_ok (mesh self.now)) (mesh self.now).points fine }
+        ensures verdict { (rest : Verdict) → told_or result rest ≡ each 9 (walk_ok (mesh self.now)) (mesh self.now).points rest }
         ensures steps { IfOk result (λ n. n ≡ total (valence (mesh self.now)) (mesh self.now).points) }
     {
         let mut steps = 0;
@@ -171,7 +167,19 @@ impl<'a> Tables<'a> {
         Ok(steps)
     }
 
+    // 10: the walks, of so many steps together, meet every corner.
+    fn judge_met(&self, steps: u32) -> Result<(), Fault>
+        requires { (Sized (mesh self.now)) × (steps ≡ total (valence (mesh self.now)) (mesh self.now).points) }
+        ensures { told result ≡ once 10 (all_met (mesh self.now)) fine }
+    {
+        if (steps as usize) < self.corners.len() {
+            return Err(Fault::CornersUnmet);
+        }
+        Ok(())
+    }
+
     // Whether the tables are a lawful mesh: the first cause against it by number, at its first place.
+    #[tactic(auto, unfolding(mesh::specs::Causes::judge))]
     pub fn judge(&self) -> Result<(), Fault>
         ensures { told result ≡ judge (mesh self.now) }
     {
@@ -184,10 +192,6 @@ impl<'a> Tables<'a> {
         self.judge_pairs()?;
         self.judge_starts()?;
         let steps = self.judge_walks()?;
-        // 10: together the walks meet every corner
-        if (steps as usize) < self.corners.len() {
-            return Err(Fault::CornersUnmet);
-        }
-        Ok(())
+        self.judge_met(steps)
     }
 }

@@ -6,8 +6,8 @@ ghost use Rattle.refinement.specs.Tasks.{old_slot, face_slot, edge_slot};
 
 use mesh::number::{Edge, Point, Quad};
 
-#[tactic(auto, using(std::proofs::lemmas::Bool::Decides::nat_tests), unfolding(refinement::specs::Tasks::old_slot))]
 // The new slot of an old point of a mesh with so many quads.
+#[tactic(auto, using(std::proofs::lemmas::Bool::Decides::nat_tests), unfolding(refinement::specs::Tasks::old_slot))]
 pub fn old_slot(quads: u32, point: Point) -> usize
     ensures { (m : Mesh) → m.quads ≡ quads → result ≡ old_slot m point.0 }
 {
@@ -18,16 +18,16 @@ pub fn old_slot(quads: u32, point: Point) -> usize
     }
 }
 
-#[tactic(auto, unfolding(refinement::specs::Tasks::face_slot))]
 // The slot of the face point of a quad.
+#[tactic(auto, unfolding(refinement::specs::Tasks::face_slot))]
 pub fn face_slot(quad: Quad) -> usize
     ensures { result ≡ face_slot quad.0 }
 {
     4 * (quad.0 as usize) + 1
 }
 
-#[tactic(auto, unfolding(refinement::specs::Tasks::edge_slot))]
 // The slot of the point of an edge.
+#[tactic(auto, unfolding(refinement::specs::Tasks::edge_slot))]
 pub fn edge_slot(edge: Edge) -> usize
     ensures { result ≡ edge_slot edge.0 }
 {

@@ -9,4 +9,4 @@ returns-in-Some c = let n = c.requires.counted.corner_count in first_at _ _ _ _ 
 
 pub returns-in-None : goal.returns-in-None
 unfolding mesh_of corner_ok
-returns-in-None c = let n = c.requires.counted.corner_count in search (rules, nowhere)
+returns-in-None c = let n = c.requires.counted.corner_count in nowhere _ _ _ (λ i l. search rules)

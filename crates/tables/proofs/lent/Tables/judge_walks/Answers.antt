@@ -1,7 +1,6 @@
 use Rattle.std.proofs.Common.{◌≡◌, ◌+◌, ◌≤◌, sym, refl, ap, ◌∙◌, arith, rules, below_more}
 use Rattle.mesh.specs.Causes.{mesh_of, walk_ok}
 use Rattle.mesh.specs.Mesh.{valence}
-use Rattle.mesh.specs.Refusals.{told, declined}
 use Rattle.refinement.proofs.Tests.{fails, walk_tells}
 use Rattle.tables.specs.Lent.{mesh}
 use Rattle.tables.proofs.Passes.{first_at, nowhere}
@@ -30,9 +29,8 @@ unfolding mesh_of
 returns-in_err-steps-clause-verdict c =
     let m = mesh c.args.self.now in
     let e = c.valence.ensures c.loop-v.v refl in
-    let f : told c.from_residual.result ≡ declined 9 c.loop-v.v = search rules in
     let g : 2 ≤ valence m c.loop-v.v → valence m c.loop-v.v ≤ 64 → ⊥ = search rules in
-    f ∙ first_at 9 (walk_ok m) _ _ (omega arith) (fails (walk_tells m c.loop-v.v) (λ l. g l.0 l.1)) c.loop-v.invariant.0
+    λ rest. search rules ∙ first_at 9 (walk_ok m) _ _ (omega arith) (fails (walk_tells m c.loop-v.v) (λ l. g l.0 l.1)) c.loop-v.invariant.0 rest
 
 pub returns-clause-verdict : goal.returns-clause-verdict
 unfolding mesh_of
