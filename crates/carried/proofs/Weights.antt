@@ -5,7 +5,7 @@ use Rattle.std.proofs.lemmas.List.FromFn.{length-map-range_with_len}
 use Rattle.std.proofs.lemmas.List.Sums.{length-filter, count_by-le-length}
 use Rattle.std.proofs.ByRecursion.{All-append, All-map, all_kept_by, All-weaker}
 use Rattle.std.proofs.lemmas.Bool.{cases_eq, cases_lt, cases_order, cond-true, cond-false, cond_both, eq-eqb, ne_eqb, lt-ltb, le-ltb, le-leb, lt-leb}
-use Rattle.mesh.specs.Mesh.{Mesh, Lawful, point, friend, mark, off_edge, begins, ends, walk, valence, longest, shortest}
+use Rattle.mesh.specs.Mesh.{Mesh, Lawful, point, friend, mark, off_edge, begins, ends, walk, valence, longest, shortest, other_end, diagonal}
 use Rattle.refinement.specs.Tasks.{old_slot, face_slot, edge_slot}
 use Rattle.refinement.proofs.Totals.{least_is}
 use Rattle.refinement.proofs.Numbers.{by_halves}
@@ -14,7 +14,7 @@ use Rattle.refinement.proofs.Corners.{friend_once, friend_met}
 use Rattle.refinement.proofs.Walks.{walk_below}
 use Rattle.kinds.specs.Parts.{most_weight, taken, total}
 use Rattle.kinds.proofs.Parts.{total_append, total_taken}
-use Rattle.carried.specs.Blends.{other_end, diagonal, face, low_across, high_across, edge, around, marked, smooth, sharpness, some_infinite, creased, cornered, moved, served, parts, times}
+use Rattle.carried.specs.Blends.{face, low_across, high_across, edge, around, marked, smooth, sharpness, some_infinite, creased, cornered, moved, served, parts, times}
 use Rattle.carried.specs.Laws.{Fit, PartsFit}
 
 -- ---- lists of parts

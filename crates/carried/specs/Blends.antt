@@ -3,16 +3,10 @@
 use Rattle.std.specs.Prelude.{◌≡◌, ℕ, zero, suc, ◌+◌, ◌-◌, ◌*◌, ◌/◌, ◌%◌, ◌<◌, min, Bool, false, cond, ◌||◌, ltb, List, [], ◌∷◌, ◌++◌, map, length, sum, filter, ◌==◌, nat_eq, nat_lt, slice_index_or}
 use Rattle.std.specs.List.{range_with_len, flat_map}
 use Rattle.mesh.specs.Count.{least}
-use Rattle.mesh.specs.Mesh.{Mesh, point, friend, mark, off_edge, begins, ends, walk, valence}
+use Rattle.mesh.specs.Marks.{infinite}
+use Rattle.mesh.specs.Mesh.{Mesh, point, friend, mark, off_edge, begins, ends, other_end, diagonal, walk, valence}
 use Rattle.refinement.specs.Tasks.{level, old_slot, face_slot, edge_slot}
 use Rattle.kinds.specs.Parts.{taken}
-
--- the other corner of the off-edge at c, and the corner opposite c in its quad
-unfoldable pub other_end : ℕ → ℕ
-other_end c = 4 * (c / 4) + (3 - c % 4)
-
-unfoldable pub diagonal : ℕ → ℕ
-diagonal c = 4 * (c / 4) + (c + 2) % 4
 
 -- ---- face point of quad q: its four corners
 unfoldable pub face : Mesh → ℕ → List (ℕ × ℕ)
@@ -56,7 +50,7 @@ smooth_weight m v = 4 * (valence m v * valence m v)
 -- one of some mark words is that of an infinite mark
 abbrev pub some_infinite : List ℕ → Bool
 some_infinite [] = false
-some_infinite (w ∷ ws) = w == 65535 || some_infinite ws
+some_infinite (w ∷ ws) = w == infinite || some_infinite ws
 
 -- the sum of the marks met, at most 256 for each of them, and 256 for each if one is infinite
 unfoldable pub sharpness : Mesh → ℕ → ℕ

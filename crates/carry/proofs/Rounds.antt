@@ -4,10 +4,9 @@ use Rattle.std.specs.List.{flat_map}
 use Rattle.std.proofs.lemmas.List.FromFn.{length-map-range_with_len, map-range_with_len_more, take-map-range_with_len}
 use Rattle.std.proofs.lemmas.List.{append_assoc, flat_map_more, map-append, map_push}
 use Rattle.std.proofs.lemmas.List.Sums.{length-filter, sum_by-take-le}
-use Rattle.mesh.specs.Mesh.{Mesh, mark, off_edge, point, valence, walk}
+use Rattle.mesh.specs.Mesh.{Mesh, mark, off_edge, point, valence, walk, diagonal, other_end}
 use Rattle.kinds.specs.Parts.{total}
 use Rattle.carried.specs.Blends.{around, smooth, times}
-use Rattle.carried.specs.Blends.{diagonal, other_end}
 use Rattle.carried.proofs.Weights.{product_le, smooth_sum, total_map, total_round, total_times}
 use Rattle.carry.specs.Walks.{marked_met, met}
 

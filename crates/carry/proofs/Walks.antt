@@ -4,10 +4,9 @@ use Rattle.std.proofs.lemmas.List.FromFn.{filter_of_map_range_with_len_more, len
 use Rattle.std.proofs.lemmas.List.{append-nil, length_push, map_push}
 use Rattle.std.proofs.lemmas.List.Sums.{count_by-le-length, length-filter, sum_by_push}
 use Rattle.std.proofs.lemmas.Bool.{cases_Bool, cases_eq, cond-false, cond-true, eq-eqb, lt-ltb, ne_eqb}
-use Rattle.mesh.specs.Mesh.{Mesh, Sound, mark, off_edge, start, walk, valence, longest}
+use Rattle.mesh.specs.Mesh.{Mesh, Sound, mark, off_edge, start, walk, valence, longest, diagonal, other_end}
 use Rattle.refinement.proofs.Walks.{walk_back, walk_below, walk_not_back}
 use Rattle.carried.specs.Blends.{around, marked, sharpness, some_infinite}
-use Rattle.carried.specs.Blends.{diagonal, other_end}
 use Rattle.carry.specs.Walks.{Seen, marked_met, marks_at, met}
 use Rattle.carry.specs.declared.seen.Around.{Around}
 

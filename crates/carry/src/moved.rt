@@ -1,10 +1,9 @@
 // The blends of moved points.
 ghost use Rattle.std.specs.Prelude.{◌≡◌, ℕ, ◌+◌, ◌*◌, ◌<◌, ◌≤◌, true, List, [], ◌∷◌, ◌++◌, map, length, nat_lt};
 ghost use Rattle.carried.specs.Blends.{cornered, creased, marked as marked_at, moved as moved_parts, smooth as smooth_parts, times as times_parts};
-ghost use Rattle.carried.specs.Blends.{other_end as other_end_of};
 ghost use Rattle.kinds.specs.Parts.{most_weight, total};
 ghost use Rattle.mesh.specs.Marks.{word_of};
-ghost use Rattle.mesh.specs.Mesh.{point as point_of, valence as valence_at};
+ghost use Rattle.mesh.specs.Mesh.{point as point_of, valence as valence_at, other_end as other_end_of};
 ghost use Rattle.tables.specs.Lent.{mesh};
 ghost use Rattle.carry.specs.Mixes.{Mixed, Ready, blend};
 ghost use Rattle.carry.specs.Rows.{made};

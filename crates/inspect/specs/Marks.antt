@@ -1,18 +1,19 @@
 -- How many off-edges have each kind of mark.
 use Rattle.std.specs.Prelude.{◌≡◌, ℕ, ◌+◌, Bool, cond, not, ◌&&◌, ◌||◌, List, length, filter, ◌==◌, nat_le}
+use Rattle.mesh.specs.Marks.{sharpest, infinite}
 use Rattle.inspect.specs.declared.tally.Tally.{Tally}
 
 abbrev pub is_smooth : ℕ → Bool
 is_smooth w = w == 0
 
 abbrev pub is_semi_sharp : ℕ → Bool
-is_semi_sharp w = nat_le 1 w && nat_le w 4096
+is_semi_sharp w = nat_le 1 w && nat_le w sharpest
 
 abbrev pub is_infinite : ℕ → Bool
-is_infinite w = w == 65535
+is_infinite w = w == infinite
 
 abbrev pub is_no_mark : ℕ → Bool
-is_no_mark w = not (nat_le w 4096 || w == 65535)
+is_no_mark w = not (nat_le w sharpest || w == infinite)
 
 unfoldable pub how_many : (ℕ → Bool) → List ℕ → ℕ
 how_many test ws = length (filter test ws)

@@ -1,7 +1,7 @@
 -- Why a load declines its tables: the first cause by number, and the first place of that cause.
 use Rattle.std.specs.Prelude.{◌≡◌, ℕ, ◌+◌, ◌*◌, ◌/◌, ◌<◌, ◌≤◌, Bool, cond, not, ◌&&◌, ◌||◌, List, length, ◌==◌, ◌≢◌, nat_le, nat_lt}
 use Rattle.mesh.specs.Count.{least, total}
-use Rattle.mesh.specs.Marks.{MarkWord}
+use Rattle.mesh.specs.Marks.{MarkWord, sharpest, infinite}
 use Rattle.mesh.specs.Mesh.{Mesh, Counted, Meets, RunsBack, point, friend, mark, start, begins, ends, walk, shortest, longest, valence, fewest_quads, most_quads}
 use Rattle.mesh.specs.Refusals.{Verdict, fine, declined}
 
@@ -66,7 +66,7 @@ unfoldable pub friend_ok : Mesh → ℕ → Bool
 friend_ok m o = nat_lt (friend m o) (2 * m.quads)
 
 unfoldable pub mark_ok : Mesh → ℕ → Bool
-mark_ok m o = nat_le (mark m o) 4096 || mark m o == 65535
+mark_ok m o = nat_le (mark m o) sharpest || mark m o == infinite
 
 unfoldable pub back_ok : Mesh → ℕ → Bool
 back_ok m o = point m (2 * friend m o) == point m (ends o) && point m (2 * friend m o + 1) == point m (begins o)

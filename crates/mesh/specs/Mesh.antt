@@ -1,7 +1,7 @@
 -- A closed mesh of quads, by its four tables.
 -- Quad q has corners 4q to 4q+3, in winding order. Edge e, an on-edge, runs from corner 2e to corner 2e+1.
 -- Off-edge 2q runs from corner 4q+1 to 4q+2, and off-edge 2q+1 from 4q+3 to 4q.
-use Rattle.std.specs.Prelude.{◌≡◌, ℕ, zero, suc, ◌+◌, ◌*◌, ◌/◌, ◌%◌, ◌<◌, ◌≤◌, cond, ◌||◌, List, length, ◌==◌, nat_eq, slice_index}
+use Rattle.std.specs.Prelude.{◌≡◌, ℕ, zero, suc, ◌+◌, ◌-◌, ◌*◌, ◌/◌, ◌%◌, ◌<◌, ◌≤◌, cond, ◌||◌, List, length, ◌==◌, nat_eq, slice_index}
 use Rattle.mesh.specs.Count.{least, total}
 use Rattle.mesh.specs.Marks.{MarkWord}
 
@@ -43,6 +43,13 @@ begins o = 2 * o + 1
 
 unfoldable pub ends : ℕ → ℕ
 ends o = 4 * (o / 2) + (2 * o + 2) % 4
+
+-- the other corner of the off-edge at c, and the corner opposite c in its quad
+unfoldable pub other_end : ℕ → ℕ
+other_end c = 4 * (c / 4) + (3 - c % 4)
+
+unfoldable pub diagonal : ℕ → ℕ
+diagonal c = 4 * (c / 4) + (c + 2) % 4
 
 -- a step from a corner, along the off-edge there to its friend
 unfoldable pub step : Mesh → ℕ → ℕ

@@ -3,9 +3,10 @@ ghost use Rattle.std.specs.Prelude.{◌≡◌};
 ghost use Rattle.mesh.specs.Refusals.{number_of, place_of};
 
 use crate::number::{Corner, OffEdge, Point, Task};
+use std::error::Error;
 use std::fmt;
 
-#[derive(Clone, Copy, PartialEq, Eq, Debug)]
+#[derive(Clone, Copy, PartialEq, Eq, Hash, Debug)]
 pub enum Fault {
     // 1: the corner table is no multiple of 4, or the friend or mark table not half of it
     Shape,
@@ -143,3 +144,5 @@ impl fmt::Display for Fault {
         write!(f, "number {number}, place {place}: {meaning}")
     }
 }
+
+impl Error for Fault {}

@@ -3,7 +3,7 @@ use Rattle.std.proofs.Common.{◌≡◌, ℕ, ◌+◌, ◌*◌, ◌<◌, ◌≤�
 use Rattle.std.proofs.lemmas.Bool.{cases_Bool, and_parts, and_from, or_cases, or_left, or_right, eqb-true, eq-eqb, leb-true, le-leb, ltb-true, lt-ltb, both_ways}
 use Rattle.mesh.specs.Causes.{shape_ok, quads_ok, points_ok, corner_ok, friend_ok, mark_ok, back_ok, start_ok, walk_ok, all_met}
 use Rattle.mesh.specs.Count.{total}
-use Rattle.mesh.specs.Marks.{MarkWord}
+use Rattle.mesh.specs.Marks.{MarkWord, sharpest, infinite}
 use Rattle.mesh.specs.Mesh.{Mesh, Counted, RunsBack, point, friend, mark, start, begins, ends, shortest, longest, valence, fewest_quads, most_quads}
 
 -- the test passes where the fact holds, and only there
@@ -70,7 +70,7 @@ module _ (m : Mesh) where
 
   pub mark_tells : (o : ℕ) → Tells (mark_ok m o) (MarkWord (mark m o))
   unfolding mark_ok
-  mark_tells o = one_of (most (mark m o) 4096) (equal (mark m o) 65535)
+  mark_tells o = one_of (most (mark m o) sharpest) (equal (mark m o) infinite)
 
   pub back_tells : (o : ℕ) → Tells (back_ok m o) (RunsBack m o)
   unfolding back_ok

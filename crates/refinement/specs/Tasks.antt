@@ -1,6 +1,7 @@
 -- A level refined once: what each task writes, and the tasks run in any order.
 use Rattle.std.specs.Prelude.{◌≡◌, ℕ, zero, suc, ◌+◌, ◌-◌, ◌*◌, ◌/◌, ◌%◌, ◌<◌, cond, ◌⊎◌, List, [], ◌∷◌, ◌++◌, map, replicate, ◌==◌, nat_le, slice_index, slice_set}
 use Rattle.std.specs.List.{range_with_len, AllByRecursion}
+use Rattle.mesh.specs.Marks.{infinite}
 use Rattle.mesh.specs.Mesh.{Mesh, Counted, point, friend, mark, start, ends}
 
 -- a task for each quad and one for each point
@@ -29,7 +30,7 @@ edge_slot e = 4 * (e / 2) + 2 + e % 2
 
 -- the mark of an edge's halves: a semi-sharp mark falls by 256, not below 0, and an infinite one stays
 unfoldable pub fallen : ℕ → ℕ
-fallen w = cond (w == 65535) w (w - 256)
+fallen w = cond (w == infinite) w (w - 256)
 
 -- the halves of off-edge o: the two new off-edges whose marks come from it, at its end and at its beginning
 abbrev pub half_at_end : ℕ → ℕ

@@ -1,7 +1,14 @@
 -- What the tests of a load that passed have told, as the later ones need it.
-use Rattle.std.specs.Prelude.{ℕ, ◌*◌, ◌<◌, ◌≤◌}
+use Rattle.std.specs.Prelude.{ℕ, ◌*◌, ◌<◌, ◌≤◌, Ok, Err, Result}
+use Rattle.mesh.specs.declared.fault.Fault.{Fault}
 use Rattle.mesh.specs.Marks.{MarkWord}
 use Rattle.mesh.specs.Mesh.{Mesh, Counted, friend, mark, start, most_quads}
+use Rattle.mesh.specs.Refusals.{Verdict, declined, number_of, place_of}
+
+-- what a test found, or else the verdict of those after it
+abbrev pub told_or : {A : Type 0} → Result A Fault → Verdict → Verdict
+told_or (Ok x) rest = rest
+told_or (Err f) rest = declined (number_of f) (place_of f)
 
 -- after causes 1 to 3: the tables have the lengths of a mesh
 pub record Sized (m : Mesh) : Type 0 where

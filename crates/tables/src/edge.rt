@@ -47,7 +47,7 @@ impl<'a> Tables<'a> {
         requires { Reads (mesh self.now) off.0 }
         ensures { RecordOf (mesh self.now) off.0 result }
     {
-        let mark = Mark::from_word(self.marks[off.0 as usize]).unwrap();
+        let mark = Mark::try_from(self.marks[off.0 as usize]).unwrap();
         self.record_with(off, mark)
     }
 
@@ -56,13 +56,11 @@ impl<'a> Tables<'a> {
         ensures { EdgeAnswer (mesh self.now) off.0 result }
     {
         let o = off.0 as usize;
-        if o / 2 >= self.quads() || o >= self.friends.len() || o >= self.marks.len() {
+        if o / 2 >= self.quads() || o >= self.friends.len() {
             return None;
         }
-        match Mark::from_word(self.marks[o]) {
-            Some(mark) => Some(self.record_with(off, mark)),
-            None => None,
-        }
+        let mark = Mark::try_from(*self.marks.get(o)?).ok()?;
+        Some(self.record_with(off, mark))
     }
 
     // The corner a step on, along the off-edge at this one to its friend; None where that is no corner of a mesh.

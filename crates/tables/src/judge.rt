@@ -1,12 +1,12 @@
 // Whether tables are a lawful mesh: ten causes to decline them, each tried at every place before the next.
-// The contract of each pass is the verdict of its own test, with no other after it.
-ghost use Rattle.std.specs.Prelude.{◌≡◌, ℕ, ◌*◌, ◌<◌, IfOk};
-ghost use Rattle.mesh.specs.Causes.{once, each, shape_ok, quads_ok, points_ok, corner_ok, friend_ok, mark_ok, back_ok, start_ok, walk_ok, judge};
+// The contract of each pass is the verdict of its own test, before any other.
+ghost use Rattle.std.specs.Prelude.{◌≡◌, ℕ, ◌*◌, ◌<◌, ◌≤◌, IfOk, MatchOption};
+ghost use Rattle.mesh.specs.Causes.{once, each, shape_ok, quads_ok, points_ok, corner_ok, friend_ok, mark_ok, back_ok, start_ok, walk_ok, all_met, judge};
 ghost use Rattle.mesh.specs.Count.{total};
-ghost use Rattle.mesh.specs.Mesh.{start, step, valence};
-ghost use Rattle.mesh.specs.Refusals.{told, fine};
+ghost use Rattle.mesh.specs.Mesh.{longest, start, step, valence};
+ghost use Rattle.mesh.specs.Refusals.{Verdict, fine, told};
 ghost use Rattle.tables.specs.Lent.{mesh};
-ghost use Rattle.tables.specs.Passed.{Sized, Worded, Started};
+ghost use Rattle.tables.specs.Passed.{Sized, Worded, Started, told_or};
 
 use crate::corner::off_edge;
 use crate::lent::{FEWEST_QUADS, MOST_QUADS, Tables};
@@ -22,7 +22,7 @@ const LONGEST: u32 = 64;
 impl<'a> Tables<'a> {
     // 1: the tables have the lengths that go together.
     fn judge_shape(&self) -> Result<(), Fault>
-        ensures { told result ≡ once 1 (shape_ok (mesh self.now)) fine }
+        ensures { (rest : Verdict) → told_or result rest ≡ once 1 (shape_ok (mesh self.now)) rest }
     {
         let quads = self.quads();
         if self.corners.len() != 4 * quads
@@ -36,10 +36,10 @@ impl<'a> Tables<'a> {
 
     // 2: so many quads.
     fn judge_quads(&self) -> Result<(), Fault>
-        ensures { told result ≡ once 2 (quads_ok (mesh self.now)) fine }
+        ensures { (rest : Verdict) → told_or result rest ≡ once 2 (quads_ok (mesh self.now)) rest }
     {
         let quads = self.quads();
-        if quads < FEWEST_QUADS || quads > MOST_QUADS {
+        if !(FEWEST_QUADS..=MOST_QUADS).contains(&quads) {
             return Err(Fault::QuadCount);
         }
         Ok(())
@@ -47,10 +47,10 @@ impl<'a> Tables<'a> {
 
     // 3: so many points.
     fn judge_points(&self) -> Result<(), Fault>
-        ensures { told result ≡ once 3 (points_ok (mesh self.now)) fine }
+        ensures { (rest : Verdict) → told_or result rest ≡ once 3 (points_ok (mesh self.now)) rest }
     {
         let quads = self.quads();
-        if self.starts.len() < quads || self.starts.len() > 2 * quads {
+        if !(quads..=2 * quads).contains(&self.starts.len()) {
             return Err(Fault::PointCount);
         }
         Ok(())
@@ -59,72 +59,72 @@ impl<'a> Tables<'a> {
     // 4: every corner names a point.
     fn judge_corners(&self) -> Result<(), Fault>
         requires { Sized (mesh self.now) }
-        ensures { told result ≡ each 4 (corner_ok (mesh self.now)) (4 * (mesh self.now).quads) fine }
+        ensures { (rest : Verdict) → told_or result rest ≡ each 4 (corner_ok (mesh self.now)) (4 * (mesh self.now).quads) rest }
     {
         let points = self.starts.len();
-        for (c, v) in self.corners.iter().enumerate() {
-            if *v as usize >= points {
-                return Err(Fault::NoSuchPoint(Corner(c as u32)));
-            }
+        match self.corners.iter().position(|v| *v as usize >= points) {
+            Some(c) => Err(Fault::NoSuchPoint(Corner(c as u32))),
+            None => Ok(()),
         }
-        Ok(())
     }
 
     // 5: every off-edge has an edge for friend.
     fn judge_friends(&self) -> Result<(), Fault>
         requires { Sized (mesh self.now) }
-        ensures { told result ≡ each 5 (friend_ok (mesh self.now)) (2 * (mesh self.now).quads) fine }
+        ensures { (rest : Verdict) → told_or result rest ≡ each 5 (friend_ok (mesh self.now)) (2 * (mesh self.now).quads) rest }
     {
         let edges = 2 * self.quads();
-        for (o, g) in self.friends.iter().enumerate() {
-            if *g as usize >= edges {
-                return Err(Fault::NoSuchEdge(OffEdge(o as u32)));
-            }
+        match self.friends.iter().position(|g| *g as usize >= edges) {
+            Some(o) => Err(Fault::NoSuchEdge(OffEdge(o as u32))),
+            None => Ok(()),
         }
-        Ok(())
     }
 
     // 6: every mark word stands for a mark.
     fn judge_marks(&self) -> Result<(), Fault>
         requires { Sized (mesh self.now) }
-        ensures { told result ≡ each 6 (mark_ok (mesh self.now)) (2 * (mesh self.now).quads) fine }
+        ensures { (rest : Verdict) → told_or result rest ≡ each 6 (mark_ok (mesh self.now)) (2 * (mesh self.now).quads) rest }
     {
-        for (o, word) in self.marks.iter().enumerate() {
-            if Mark::from_word(*word).is_none() {
-                return Err(Fault::NoMark(OffEdge(o as u32)));
-            }
+        match self.marks.iter().position(|w| Mark::try_from(*w).is_err()) {
+            Some(o) => Err(Fault::NoMark(OffEdge(o as u32))),
+            None => Ok(()),
         }
-        Ok(())
+    }
+
+    // Whether the friend of an off-edge runs the other way.
+    fn runs_back(&self, off: OffEdge) -> bool
+        requires { (Worded (mesh self.now)) × (off.0 < 2 * (mesh self.now).quads) }
+        ensures { result ≡ back_ok (mesh self.now) off.0 }
+    {
+        let record = self.record(off);
+        let from = 2 * record.friend.0 as usize;
+        self.corners[from] == record.end.0 && self.corners[from + 1] == record.begin.0
     }
 
     // 7: every friend runs the other way.
     fn judge_pairs(&self) -> Result<(), Fault>
         requires { Worded (mesh self.now) }
-        ensures { told result ≡ each 7 (back_ok (mesh self.now)) (2 * (mesh self.now).quads) fine }
+        ensures { (rest : Verdict) → told_or result rest ≡ each 7 (back_ok (mesh self.now)) (2 * (mesh self.now).quads) rest }
     {
-        for o in 0..self.friends.len() {
-            let off = OffEdge(o as u32);
-            let record = self.record(off);
-            let from = 2 * record.friend.0 as usize;
-            if self.corners[from] != record.end.0 || self.corners[from + 1] != record.begin.0 {
-                return Err(Fault::NotOpposed(off));
-            }
+        let unopposed = |(o, _): (usize, &u32)| !self.runs_back(OffEdge(o as u32));
+        match self.friends.iter().enumerate().position(unopposed) {
+            Some(o) => Err(Fault::NotOpposed(OffEdge(o as u32))),
+            None => Ok(()),
         }
-        Ok(())
     }
 
     // 8: every point has a corner of its own to start from.
     fn judge_starts(&self) -> Result<(), Fault>
         requires { Sized (mesh self.now) }
-        ensures { told result ≡ each 8 (start_ok (mesh self.now)) (mesh self.now).points fine }
+        ensures { (rest : Verdict) → told_or result rest ≡ each 8 (start_ok (mesh self.now)) (mesh self.now).points rest }
     {
-        for (v, c) in self.starts.iter().enumerate() {
-            let c = *c as usize;
-            if c >= self.corners.len() || self.corners[c] as usize != v {
-                return Err(Fault::NotAtPoint(Point(v as u32)));
-            }
+        let elsewhere = |(v, c): (usize, &u32)| {
+            self.corners.get(*c as usize).map(|p| *p as usize) != Some(v)
+        };
+        match self.starts.iter().enumerate().position(elsewhere) {
+            Some(v) => Err(Fault::NotAtPoint(Point(v as u32))),
+            None => Ok(()),
         }
-        Ok(())
     }
 
     // The corner a step on from a corner of the tables.
@@ -136,39 +136,50 @@ impl<'a> Tables<'a> {
         Corner(2 * self.record(off_edge(corner)).friend.0 + corner.0 % 2)
     }
 
-    // The steps until the walk from a start is back, or 65: a walk may run into a ring that misses its start.
-    fn valence(&self, from: Corner) -> u32
+    // The steps until the walk from a start is back, if it is within 64: a walk may run into a ring that misses its start.
+    fn valence(&self, from: Corner) -> Option<u32>
         requires { (Worded (mesh self.now)) × (from.0 < 4 * (mesh self.now).quads) }
-        ensures { (v : ℕ) → start (mesh self.now) v ≡ from.0 → result ≡ valence (mesh self.now) v }
+        ensures { (v : ℕ) → start (mesh self.now) v ≡ from.0 → MatchOption result (longest < valence (mesh self.now) v) (λ n. (n ≡ valence (mesh self.now) v) × (n ≤ longest)) }
     {
         let mut corner = from;
         for steps in 0..LONGEST {
             corner = self.next(corner);
             if corner.0 == from.0 {
-                return steps + 1;
+                return Some(steps + 1);
             }
         }
-        LONGEST + 1
+        None
     }
 
     // 9: every walk is back in time. The steps of all together.
     fn judge_walks(&self) -> Result<u32, Fault>
         requires { Started (mesh self.now) }
-        ensures verdict { told result ≡ each 9 (walk_ok (mesh self.now)) (mesh self.now).points fine }
+        ensures verdict { (rest : Verdict) → told_or result rest ≡ each 9 (walk_ok (mesh self.now)) (mesh self.now).points rest }
         ensures steps { IfOk result (λ n. n ≡ total (valence (mesh self.now)) (mesh self.now).points) }
     {
         let mut steps = 0;
         for (v, c) in self.starts.iter().enumerate() {
-            let valence = self.valence(Corner(*c));
-            if valence < SHORTEST || valence > LONGEST {
-                return Err(Fault::NotBack(Point(v as u32)));
-            }
-            steps += valence;
+            steps += self
+                .valence(Corner(*c))
+                .filter(|n| *n >= SHORTEST)
+                .ok_or(Fault::NotBack(Point(v as u32)))?;
         }
         Ok(steps)
     }
 
+    // 10: the walks, of so many steps together, meet every corner.
+    fn judge_met(&self, steps: u32) -> Result<(), Fault>
+        requires { (Sized (mesh self.now)) × (steps ≡ total (valence (mesh self.now)) (mesh self.now).points) }
+        ensures { told result ≡ once 10 (all_met (mesh self.now)) fine }
+    {
+        if (steps as usize) < self.corners.len() {
+            return Err(Fault::CornersUnmet);
+        }
+        Ok(())
+    }
+
     // Whether the tables are a lawful mesh: the first cause against it by number, at its first place.
+    #[tactic(auto, unfolding(mesh::specs::Causes::judge))]
     pub fn judge(&self) -> Result<(), Fault>
         ensures { told result ≡ judge (mesh self.now) }
     {
@@ -181,10 +192,6 @@ impl<'a> Tables<'a> {
         self.judge_pairs()?;
         self.judge_starts()?;
         let steps = self.judge_walks()?;
-        // 10: together the walks meet every corner
-        if (steps as usize) < self.corners.len() {
-            return Err(Fault::CornersUnmet);
-        }
-        Ok(())
+        self.judge_met(steps)
     }
 }

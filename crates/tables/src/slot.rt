@@ -7,6 +7,7 @@ ghost use Rattle.refinement.specs.Tasks.{old_slot, face_slot, edge_slot};
 use mesh::number::{Edge, Point, Quad};
 
 // The new slot of an old point of a mesh with so many quads.
+#[tactic(auto, using(std::proofs::lemmas::Bool::Decides::nat_tests), unfolding(refinement::specs::Tasks::old_slot))]
 pub fn old_slot(quads: u32, point: Point) -> usize
     ensures { (m : Mesh) → m.quads ≡ quads → result ≡ old_slot m point.0 }
 {
@@ -18,6 +19,7 @@ pub fn old_slot(quads: u32, point: Point) -> usize
 }
 
 // The slot of the face point of a quad.
+#[tactic(auto, unfolding(refinement::specs::Tasks::face_slot))]
 pub fn face_slot(quad: Quad) -> usize
     ensures { result ≡ face_slot quad.0 }
 {
@@ -25,6 +27,7 @@ pub fn face_slot(quad: Quad) -> usize
 }
 
 // The slot of the point of an edge.
+#[tactic(auto, unfolding(refinement::specs::Tasks::edge_slot))]
 pub fn edge_slot(edge: Edge) -> usize
     ensures { result ≡ edge_slot edge.0 }
 {

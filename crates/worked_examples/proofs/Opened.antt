@@ -1,8 +1,7 @@
 -- What the proofs compute with, a name for each group: a proof that unfolds the name unfolds the group.
 use Rattle.mesh.specs.Causes.{once, each, judge, shape_ok, quads_ok, points_ok, corner_ok, friend_ok, mark_ok, back_ok, start_ok, walk_ok, all_met}
 use Rattle.mesh.specs.Count.{least, total}
-use Rattle.mesh.specs.Mesh.{off_edge, begins, ends, step, walk, valence}
-use Rattle.carried.specs.Blends.{other_end, diagonal}
+use Rattle.mesh.specs.Mesh.{off_edge, begins, ends, step, walk, valence, other_end, diagonal}
 use Rattle.lines.specs.Reading.{front, number, same, word, words, line, lines, mesh_read, roomy, body_read, reading as reading_of}
 use Rattle.lines.specs.Text.{digits, word_text, words_text, line_text, quad_rows, start_rows, mesh_text}
 use Rattle.refinement.specs.Tasks.{old_slot, face_slot, edge_slot, fallen, put, blank, run, runs, tasks, refine}

@@ -1,6 +1,6 @@
 use Rattle.std.proofs.Common.{◌≡◌, ◌+◌, ◌-◌, ◌*◌, min, [], ◌∷◌, ap, ◌∙◌, arith}
-use Rattle.carried.specs.Blends.{edge, other_end, low_across, high_across}
-use Rattle.mesh.specs.Mesh.{point, mark, friend}
+use Rattle.carried.specs.Blends.{edge, low_across, high_across}
+use Rattle.mesh.specs.Mesh.{point, mark, friend, other_end}
 use Rattle.tables.specs.Lent.{mesh}
 use Rattle.carry.specs.Mixes.{blend}
 use Rattle.carry.specs.Rows.{made}

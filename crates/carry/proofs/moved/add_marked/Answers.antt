@@ -1,11 +1,10 @@
 use Rattle.std.proofs.Common.{◌≡◌, ◌+◌, ◌*◌, ◌≤◌, ltb, [], ◌∷◌, ◌++◌, length, sym, refl, ap, ◌∙◌, subst, arith}
 use Rattle.std.proofs.lemmas.List.{append-nil, length_push}
 use Rattle.mesh.specs.Causes.{mesh_of}
-use Rattle.mesh.specs.Mesh.{point}
+use Rattle.mesh.specs.Mesh.{point, other_end}
 use Rattle.kinds.specs.Parts.{total}
 use Rattle.kinds.proofs.Parts.{total_append}
 use Rattle.refinement.proofs.Loops.{walk_first, walk_more}
-use Rattle.carried.specs.Blends.{other_end}
 use Rattle.tables.specs.Lent.{mesh}
 use Rattle.carry.specs.Mixes.{Mixed}
 use Rattle.carry.specs.Rows.{made}

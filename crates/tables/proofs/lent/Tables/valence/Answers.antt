@@ -24,10 +24,12 @@ loop-steps-preserved c =
 
 pub returns-then-corner-from : goal.returns-then-corner-from
 returns-then-corner-from c = λ v f.
-    let m = mesh c.args.self.now in
-    valence_back m v c.loop-steps.steps c.loop-steps-test.true
-    (sym (walk_more m v _ _ _ (c.loop-steps.invariant.1 v f) c.next-corner.ensures.is) ∙ c.if-corner-from.true ∙ sym f)
-    (c.loop-steps.invariant.2 v f)
+    let m = mesh c.args.self.now in (
+      valence_back m v c.loop-steps.steps c.loop-steps-test.true
+          (sym (walk_more m v _ _ _ (c.loop-steps.invariant.1 v f) c.next-corner.ensures.is) ∙ c.if-corner-from.true ∙ sym f)
+          (c.loop-steps.invariant.2 v f),
+      omega arith,
+    )
 
 pub returns : goal.returns
-returns c = λ v f. valence_none (mesh c.args.self.now) v (λ i l. c.loop-steps.invariant.2 v f i (omega arith))
+returns c = λ v f. let e = valence_none (mesh c.args.self.now) v (λ i l. c.loop-steps.invariant.2 v f i (omega arith)) in omega arith
