@@ -7,7 +7,7 @@ ghost use Rattle.mesh.specs.Refusals.{told};
 ghost use Rattle.lines.specs.Reading.{reading, room, answer, heading, Holds};
 ghost use Rattle.exported.specs.Answers.{refusal_of, found_of};
 
-use lines::{Counts, read, read_counts};
+use lines::{Counts, TablesMut, read, read_counts};
 use mesh::fault::Fault;
 use tables::lent::Tables;
 
@@ -92,7 +92,13 @@ pub fn mesh_read(
     ensures answer { result ≡ found_of (answer (reading text.now (room corners.old friends.old marks.old starts.old))) }
     ensures tables { Holds (reading text.now (room corners.old friends.old marks.old starts.old)) corners.old friends.old marks.old starts.old corners.new friends.new marks.new starts.new }
 {
-    Found::of(read(text, corners, friends, marks, starts))
+    let mut tables = TablesMut {
+        corners,
+        friends,
+        marks,
+        starts,
+    };
+    Found::of(read(text, &mut tables))
 }
 
 // Reads line 0 of a text.

@@ -1,7 +1,7 @@
 // Reads a mesh text from standard input and says in plain words what it holds, or why it is refused.
 #![tactic(auto)]
 
-use lines::{Counts, read, read_counts};
+use lines::{Counts, TablesMut, read, read_counts};
 use mesh::fault::Fault;
 use std::io::Read;
 
@@ -62,7 +62,13 @@ fn inspect(rt: &HostRuntime, text: &[u8]) -> anyhow::Result<()> {
     let mut friends = vec![in heap; 0u32; 2 * quads]?;
     let mut marks = vec![in heap; 0u32; 2 * quads]?;
     let mut starts = vec![in heap; 0u32; points]?;
-    match read(text, &mut corners, &mut friends, &mut marks, &mut starts) {
+    let mut tables = TablesMut {
+        corners: &mut corners,
+        friends: &mut friends,
+        marks: &mut marks,
+        starts: &mut starts,
+    };
+    match read(text, &mut tables) {
         Ok(counts) => report(rt, counts, &marks),
         Err(fault) => refuse(rt, fault),
     }

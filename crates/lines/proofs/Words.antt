@@ -2,7 +2,7 @@
 use Rattle.std.proofs.Common.{◌≡◌, ℕ, zero, suc, ◌+◌, ◌-◌, ◌*◌, ◌/◌, ◌%◌, ◌^◌, ◌<◌, ◌≤◌, ◌⊎◌, List, [], ◌∷◌, ◌++◌, length, get_or, take, drop, sym, refl, ap, ◌∙◌, subst, inl, inr, mod-eq_of_lt, mul_comm, div-lt_iff_lt-mul, pow-suc, div-one, add-one, arith, length-append}
 use native.Mathlib.Nat.{pow-le-pow_right, div-eq_of_lt, div-div-eq-div-mul}
 use Rattle.std.proofs.lemmas.Bool.Decides.{nat_tests, leb_tells}
-use Rattle.std.proofs.lemmas.List.{take_more, take_at, drop_at, take-append-drop, get_or-take, get_or-drop, get_or_append_left, get_or-append_right, get_or_at, same_from_push}
+use Rattle.std.proofs.lemmas.List.{get_or_past, take_more, take_at, drop_at, take-append-drop, get_or-take, get_or-drop, get_or_append_left, get_or-append_right, get_or_at, same_from_push}
 use Rattle.lines.specs.Lines.{digit_of, Word, Run}
 use Rattle.lines.specs.Text.{hex_byte, digits, width, word_text}
 
@@ -18,6 +18,13 @@ digit_back d h = grind (arith, nat_tests)
 
 pub digit_le : (b : ℕ) → digit_of b ≤ 16
 digit_le b = grind (arith, nat_tests)
+
+-- past the end no digit is found
+pub digit_inside : (s : List ℕ) (i : ℕ) → digit_of (get_or s i 0) < 16 → i < length s
+digit_inside s i h = elim (lt_or_ge i (length s)) [
+  | inl a ↦ a
+  | inr a ↦ let e = ap digit_of (get_or_past s i 0 a) in absurd (omega arith)
+]
 
 only_zero : (d : ℕ) → hex_byte d ≡ 48 → d ≡ 0
 only_zero d e = grind (arith, nat_tests)

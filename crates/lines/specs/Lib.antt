@@ -1,4 +1,6 @@
+pub mod Kinds
 pub mod Laws
+pub mod Lent
 pub mod Lines
 pub mod Reading
 pub mod Text

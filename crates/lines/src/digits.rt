@@ -1,4 +1,4 @@
-// The digit that each byte is, and 16 where it is none. A table, since a test of ranges costs a branch that is often foretold wrongly.
+// The digit that each byte is, and 16 where it is none. One table of bytes, since a test of ranges costs a branch that is often foretold wrongly.
 pub const DIGITS: [u8; 256] = [
     16, 16, 16, 16, 16, 16, 16, 16, 16, 16, 16, 16, 16, 16, 16, 16, 16, 16, 16, 16, 16, 16, 16, 16,
     16, 16, 16, 16, 16, 16, 16, 16, 16, 16, 16, 16, 16, 16, 16, 16, 16, 16, 16, 16, 16, 16, 16, 16,

@@ -1,17 +1,20 @@
 // Words and lines of a text, each taken from the front of the bytes that are left.
-ghost use Rattle.std.specs.Prelude.{◌≡◌, ℕ, List, length, Some, None, MatchOption};
+ghost use Rattle.std.specs.Prelude.{◌≡◌, ℕ, ◌<◌, List, length, Some, None, MatchOption};
 ghost use Rattle.std.specs.List.{AllByRecursion};
+ghost use Rattle.lines.specs.Kinds.{first_digit, second_digit};
 ghost use Rattle.lines.specs.Lines.{digit_of, Run, Word, Spaced, Words};
 ghost use Rattle.lines.specs.Reading.{line};
 ghost use Rattle.lines.specs.Text.{WordSized};
 
 use crate::digits::DIGITS;
+use crate::kind::Kind;
 
-// The digit that a byte is, and 16 where it is none.
-fn digit(b: u8) -> u32
-    ensures { result ≡ digit_of b }
+// The digit that a byte is.
+fn digit(b: u8) -> Option<u32>
+    ensures { MatchOption result (digit_of b ≡ 16) (λ d. (d ≡ digit_of b) × (d < 16)) }
 {
-    u32::from(DIGITS[b as usize])
+    let d = DIGITS[b as usize];
+    if d < 16 { Some(u32::from(d)) } else { None }
 }
 
 // The number that the first digits of `s` write, seven at most, and how many they are: one look at each byte.
@@ -20,13 +23,9 @@ fn run(s: &[u8]) -> (u32, usize)
 {
     let mut n = 0;
     for i in 0..7 {
-        if i >= s.len() {
+        let Some(d) = s.get(i).and_then(|b| digit(*b)) else {
             return (n, i);
-        }
-        let d = digit(s[i]);
-        if d == 16 {
-            return (n, i);
-        }
+        };
         n = n * 16 + d;
     }
     (n, 7)
@@ -62,29 +61,23 @@ fn read_words<'a>(s: &'a [u8], out: &mut [u32]) -> Option<&'a [u8]>
 {
     let mut rest = s;
     for w in out.iter_mut() {
-        let Some((n, more)) = spaced_word(rest) else {
-            return None;
-        };
-        *w = n;
-        rest = more;
+        (*w, rest) = spaced_word(rest)?;
     }
     Some(rest)
 }
 
-// A line of the kind a, b with as many words as `out` has places, and the bytes after it; None where no such line is there.
-pub(crate) fn read_line<'a>(s: &'a [u8], a: u8, b: u8, out: &mut [u32]) -> Option<&'a [u8]>
-    ensures { MatchOption result (line a b (length out.old) s.now ≡ None) (λ rest. (line a b (length out.old) s.now ≡ Some (out.new, rest.now)) × AllByRecursion WordSized out.new) }
+// A line of this kind with as many words as `out` has places, and the bytes after it; None where no such line is there.
+pub(crate) fn read_line<'a>(s: &'a [u8], kind: Kind, out: &mut [u32]) -> Option<&'a [u8]>
+    ensures { MatchOption result (line (first_digit kind) (second_digit kind) (length out.old) s.now ≡ None) (λ rest. (line (first_digit kind) (second_digit kind) (length out.old) s.now ≡ Some (out.new, rest.now)) × AllByRecursion WordSized out.new) }
 {
+    let [a, b] = kind.digits();
     let [first, second, words @ ..] = s else {
         return None;
     };
     if *first != a || *second != b {
         return None;
     }
-    let Some(end) = read_words(words, out) else {
-        return None;
-    };
-    let [b'\n', rest @ ..] = end else {
+    let [b'\n', rest @ ..] = read_words(words, out)? else {
         return None;
     };
     Some(rest)

@@ -3,6 +3,9 @@
 
 mod digits;
 mod frame;
+pub mod kind;
+pub mod lent;
 pub mod reader;
 
+pub use lent::TablesMut;
 pub use reader::{Counts, read, read_counts};

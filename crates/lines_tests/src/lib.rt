@@ -3,7 +3,7 @@
 
 #[cfg(test)]
 mod tests {
-    use lines::{Counts, read, read_counts};
+    use lines::{Counts, TablesMut, read, read_counts};
     use mesh::fault::Fault;
 
     const PILLOW: &[u8] =
@@ -58,7 +58,13 @@ mod tests {
         let mut friends = [7; 5];
         let mut marks = [7; 5];
         let mut starts = [7; 5];
-        let answer = read(text, &mut corners, &mut friends, &mut marks, &mut starts);
+        let mut tables = TablesMut {
+            corners: &mut corners,
+            friends: &mut friends,
+            marks: &mut marks,
+            starts: &mut starts,
+        };
+        let answer = read(text, &mut tables);
         (
             answer,
             Lent {

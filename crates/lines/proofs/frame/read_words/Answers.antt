@@ -13,14 +13,16 @@ stuck s out rest i h p none ns t e q =
     let w = subst P (ap (λ (k : ℕ). drop k ns) l ∙ drop_more ns i 0 (omega arith)) r in
     none (get_or ns i 0) w.0 w.1
 
-pub returns-in_default : goal.returns-in_default
-returns-in_default c ns t e q = stuck c.args.s.now c.loop-w.out c.loop-w.rest.now c.loop-w.w-index (omega arith) c.loop-w.invariant c.in_default.ensures ns t (omega arith) q
+pub returns-in_err-w : goal.returns-in_err-w
+returns-in_err-w c = rw c.from_residual.ensures (λ ns t e q. stuck c.args.s.now c.loop-w.out c.loop-w.rest.now c.loop-w.w-index (omega arith) c.loop-w.invariant c.in_err-w.ensures ns t (omega arith) q)
 
 pub loop-w-preserved : goal.loop-w-preserved
 loop-w-preserved c =
-    let P : List ℕ → Type 0 = λ x. Words c.args.s.now x c.in-Some.more.now in
-    subst P (sym (take_more_set c.loop-w.out c.loop-w.w-index c.in-Some.n (omega arith)))
-    (words_push (take c.loop-w.w-index c.loop-w.out) c.args.s.now c.loop-w.rest.now c.in-Some.n c.in-Some.more.now c.loop-w.invariant c.in-Some.ensures)
+    let n = c.in_ok-w.field-0-0 in
+    let more = c.in_ok-w.field-0-1.now in
+    let P : List ℕ → Type 0 = λ x. Words c.args.s.now x more in
+    subst P (sym (take_more_set c.loop-w.out c.loop-w.w-index n (omega arith)))
+    (words_push (take c.loop-w.w-index c.loop-w.out) c.args.s.now c.loop-w.rest.now n more c.loop-w.invariant c.in_ok-w.ensures)
 
 pub returns : goal.returns
 returns c = let P : List ℕ → Type 0 = λ x. Words c.args.s.now x c.loop-w.rest.now in subst P (take_all c.loop-w.w-index c.loop-w.out (omega arith)) c.loop-w.invariant

@@ -1,29 +1,45 @@
-use Rattle.std.proofs.Common.{◌≡◌, ℕ, ◌-◌, ◌≤◌, List, length, take, sym, refl, ap, ◌∙◌, arith, rules}
-use Rattle.std.proofs.lemmas.List.{length-take-le, places}
+use Rattle.std.proofs.Common.{◌≡◌, ℕ, ◌+◌, Err, Option, sym, ap, ◌∙◌, arith}
+use Rattle.std.specs.Option.{ok_or}
+use Rattle.std.proofs.lemmas.List.{length-replicate}
+use Rattle.std.proofs.lemmas.Option.{MatchOption-at_some, MatchOption-at_none}
+use Rattle.std.proofs.lemmas.Result.{err_from_is_err_and}
+use Rattle.mesh.specs.declared.fault.Fault.TheVariants.{BadLine}
+use Rattle.lines.specs.Kinds.{first_digit, second_digit}
 use Rattle.lines.specs.Reading.{line}
 use Rattle.lines.proofs.RowsRead.{sofar_none, sofar_more, sofar_bad, sofar_good}
 use Rattle.lines.proofs.reader.judge_lines.Goals as goal
 
 pub loop-k-init : goal.loop-k-init
-loop-k-init c = (refl, (_, sofar_none 48 c.args.kind c.args.words c.args.count c.args.text.now))
+loop-k-init g c = (length-replicate g.row.WORDS 0, (_, sofar_none (first_digit c.args.kind) (second_digit c.args.kind) g.row.WORDS c.args.count c.args.text.now))
 
--- the row is lent from its front
-lent : (row : List ℕ) (k : ℕ) → length row ≡ 8 → k ≤ 8 → length (take (k - 0) row) ≡ k
-lent row k e h = let l = length-take-le (k - 0) row (omega arith) in omega arith
+pub whole_as_slice-read_line : goal.whole_as_slice-read_line
+whole_as_slice-read_line g c = let h = c.requires.few in omega arith
 
-pub returns-in_default : goal.returns-in_default
-returns-in_default c =
+pub returns-in_err-rest : goal.returns-in_err-rest
+returns-in_err-rest g c =
     let p = c.loop-k.invariant.1 in
-    let w = lent c.loop-k.row c.args.words c.loop-k.invariant.0 c.requires.few in
-    (c.loop-k.k, refl, sofar_bad 48 c.args.kind c.args.words c.args.count c.args.text.now p.0 c.loop-k.k c.loop-k.rest.now (omega arith) p.1 (ap (λ (k : ℕ). line 48 c.args.kind k c.loop-k.rest.now) (sym w) ∙ c.in_default.ensures))
+    let k = c.loop-k.k in
+    let a = first_digit c.args.kind in
+    let b = second_digit c.args.kind in
+    let r = err_from_is_err_and c.from_residual.result c.from_residual.ensures.1 in
+    let o = c.in_err-rest.ensures in
+    let bad_line = BadLine (c.args.first + k) in
+    let v : Err c.in_err-rest.field-0.0 ≡ Err bad_line = o.value ∙ ap (λ (x : Option _). ok_or x bad_line) o.ok_part in
+    let f : c.in_err-rest.field-0.0 ≡ bad_line = cc in
+    let none = MatchOption-at_none _ _ o.ok_part c.read_line.ensures in
+    rw (r.1, r.2)
+    (k, f, sofar_bad a b g.row.WORDS c.args.count c.args.text.now p.0 k c.loop-k.rest.now (omega arith) p.1 (ap (λ (n : ℕ). line a b n c.loop-k.rest.now) (sym c.loop-k.invariant.0) ∙ none))
 
 pub loop-k-preserved : goal.loop-k-preserved
-loop-k-preserved c =
+loop-k-preserved g c =
     let p = c.loop-k.invariant.1 in
-    let w = lent c.loop-k.row c.args.words c.loop-k.invariant.0 c.requires.few in
-    (search (rules, places), (_, sofar_more 48 c.args.kind c.args.words c.args.count c.args.text.now p.0 c.loop-k.k c.loop-k.rest.now c.read_line.new.out c.in-Some.more.now (omega arith) p.1 (ap (λ (k : ℕ). line 48 c.args.kind k c.loop-k.rest.now) (sym w) ∙ c.in-Some.ensures.0)))
+    let k = c.loop-k.k in
+    let a = first_digit c.args.kind in
+    let b = second_digit c.args.kind in
+    let found = MatchOption-at_some _ _ _ c.in_ok-rest.ensures.ok_part c.read_line.ensures in
+    (omega arith, (_, sofar_more a b g.row.WORDS c.args.count c.args.text.now p.0 k c.loop-k.rest.now c.read_line.new.out c.in_ok-rest.rest.now (omega arith) p.1 (ap (λ (n : ℕ). line a b n c.loop-k.rest.now) (sym c.loop-k.invariant.0) ∙ found.0)))
 
 pub returns : goal.returns
-returns c =
+returns g c =
     let p = c.loop-k.invariant.1 in
-    (p.0, sofar_good 48 c.args.kind c.args.words c.args.count c.args.text.now p.0 c.loop-k.k c.loop-k.rest.now (omega arith) p.1)
+    (p.0, sofar_good (first_digit c.args.kind) (second_digit c.args.kind) g.row.WORDS c.args.count c.args.text.now p.0 c.loop-k.k c.loop-k.rest.now (omega arith) p.1)

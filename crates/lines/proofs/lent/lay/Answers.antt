@@ -1,6 +1,6 @@
 use Rattle.std.proofs.Common.{◌≡◌, ℕ, ◌+◌, ◌-◌, List, ◌++◌, length, take, drop, ap, ◌∙◌, arith}
 use Rattle.std.proofs.lemmas.List.{drop-drop}
-use Rattle.lines.proofs.reader.lay.Goals as goal
+use Rattle.lines.proofs.lent.lay.Goals as goal
 
 pub returns : goal.returns
 returns c =

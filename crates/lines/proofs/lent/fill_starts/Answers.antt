@@ -2,7 +2,7 @@ use Rattle.std.proofs.Common.{◌≡◌, ℕ, ◌+◌, [], length, sym, refl, ap
 use Rattle.lines.specs.Reading.{line}
 use Rattle.lines.proofs.Laying.{laid_none, laid_more, laid_at}
 use Rattle.lines.proofs.RowsRead.{sofar_none, sofar_more, sofar_bad, sofar_good}
-use Rattle.lines.proofs.reader.fill_starts.Goals as goal
+use Rattle.lines.proofs.lent.fill_starts.Goals as goal
 
 pub loop-v-init : goal.loop-v-init
 loop-v-init c = (refl, ([], sofar_none 48 50 1 c.args.count c.args.text.now, laid_none (λ ns. ns) 0 c.args.starts.now refl))

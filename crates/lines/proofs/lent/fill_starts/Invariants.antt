@@ -1,7 +1,7 @@
 use Rattle.std.proofs.Common.{◌≡◌, ℕ, List, length}
 use Rattle.lines.proofs.Laying.{Laid}
 use Rattle.lines.proofs.RowsRead.{Sofar}
-use Rattle.lines.proofs.reader.fill_starts.Given as goal
+use Rattle.lines.proofs.lent.fill_starts.Given as goal
 
 -- the rows so far lie in the table
 abbrev pub invariant-loop-v : goal.invariant-loop-v

@@ -1,0 +1,87 @@
+// The four tables that a text is read into, lent by whoever holds them.
+ghost use Rattle.std.specs.Prelude.{◌≡◌, ℕ, ◌+◌, ◌*◌, ◌≤◌, List, ◌++◌, length, take, drop, MatchOption};
+ghost use Rattle.std.specs.List.{flat_map};
+ghost use Rattle.mesh.specs.Mesh.{Mesh};
+ghost use Rattle.lines.specs.Laws.{HasRoom};
+ghost use Rattle.lines.specs.Lent.{Same, lent_room, HoldsIn};
+ghost use Rattle.lines.specs.Reading.{lines, good, accepted, body_read, roomy, laid};
+
+use crate::frame::read_line;
+use crate::kind::Kind;
+use crate::reader::Counts;
+
+#[derive(Drop)]
+pub struct TablesMut<'a> {
+    pub corners: &'a mut [u32],
+    pub friends: &'a mut [u32],
+    pub marks: &'a mut [u32],
+    pub starts: &'a mut [u32],
+}
+
+// Writes words over a part of a table.
+fn lay(table: &mut [u32], at: usize, words: &[u32])
+    requires { at + length words.now ≤ length table.old }
+    ensures { table.new ≡ take at table.old ++ (words.now ++ drop (at + length words.now) table.old) }
+{
+    table[at..at + words.len()].copy_from_slice(words);
+}
+
+impl TablesMut<'_> {
+    // Whether they have room for so many quads and points.
+    pub(crate) fn has_room(&self, counts: Counts) -> bool
+        ensures { result ≡ roomy counts.quads counts.points (lent_room self.now) }
+    {
+        let quads = counts.quads as usize;
+        4 * quads <= self.corners.len()
+            && 2 * quads <= self.friends.len()
+            && 2 * quads <= self.marks.len()
+            && counts.points as usize <= self.starts.len()
+    }
+
+    // Fills the three tables of quads from their lines; the bytes after these.
+    fn fill_quads<'t>(&mut self, body: &'t [u8], counts: Counts) -> Option<&'t [u8]>
+        requires { HasRoom counts.quads counts.points (lent_room self.old) }
+        ensures same { Same self.old self.new }
+        ensures starts_kept { self.new.starts.now ≡ self.old.starts.now }
+        ensures filled { (rows : List (List ℕ)) (t : List ℕ) → lines 48 49 8 counts.quads body.now ≡ good rows t → MatchOption result ⊥ (λ rest. (rest.now ≡ t) × (self.new.corners.now ≡ laid (flat_map (λ ns. take 4 ns) rows) self.old.corners.now) × (self.new.friends.now ≡ laid (flat_map (λ ns. take 2 (drop 4 ns)) rows) self.old.friends.now) × (self.new.marks.now ≡ laid (flat_map (λ ns. take 2 (drop 6 ns)) rows) self.old.marks.now)) }
+    {
+        // by index: after chunks of a `&mut` slice nothing is known of its elements
+        let mut row = [0u32; 8];
+        let mut rest = body;
+        for q in 0..counts.quads as usize {
+            rest = read_line(rest, Kind::Quad, &mut row)?;
+            lay(self.corners, 4 * q, &row[0..4]);
+            lay(self.friends, 2 * q, &row[4..6]);
+            lay(self.marks, 2 * q, &row[6..8]);
+        }
+        Some(rest)
+    }
+
+    // Fills the tables from lines that were judged.
+    pub(crate) fn fill(&mut self, body: &[u8], counts: Counts)
+        requires { HasRoom counts.quads counts.points (lent_room self.old) }
+        ensures same { Same self.old self.new }
+        ensures filled { (m : Mesh) → body_read counts.quads counts.points body.now ≡ accepted m → HoldsIn (accepted m) self.old self.new }
+    {
+        let Some(points) = self.fill_quads(body, counts) else {
+            return;
+        };
+        fill_starts(points, counts.points, self.starts);
+    }
+}
+
+// Fills the table of starts from the lines of the points.
+fn fill_starts(text: &[u8], count: u32, starts: &mut [u32])
+    requires { count ≤ length starts.old }
+    ensures { (rows : List (List ℕ)) (t : List ℕ) → lines 48 50 1 count text.now ≡ good rows t → starts.new ≡ laid (flat_map (λ ns. ns) rows) starts.old }
+{
+    let mut row = [0u32; 1];
+    let mut rest = text;
+    for v in 0..count as usize {
+        let Some(more) = read_line(rest, Kind::Start, &mut row) else {
+            return;
+        };
+        lay(starts, v, &row);
+        rest = more;
+    }
+}
