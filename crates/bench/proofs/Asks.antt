@@ -1,30 +1,28 @@
--- What a question answers, from the tables of its level.
-use Rattle.std.proofs.Common.{◌≡◌, ℕ, ◌+◌, ◌*◌, ◌/◌, ◌<◌, ◌≤◌, leb, List, length, get_or, Some, Ok, Err, sym, ap, ◌∙◌, subst, inl, inr, arith}
+-- The tables of a level that a bench lends, by its words.
+use Rattle.std.proofs.Common.{◌≡◌, ℕ, ◌+◌, ◌*◌, ◌/◌, ◌<◌, ◌≤◌, List, length, get_or, Some, sym, ap, ◌∙◌, subst, inl, inr, arith}
 use mathlib.Core.Logic.{∥∥₁_elim}
 use mathlib.Core.HLevel.{⊥_prop}
-use Rattle.std.proofs.lemmas.Bool.{cond-true, cond-false, le-leb, lt-leb, cases_lt, cases_eq}
+use Rattle.std.proofs.lemmas.Bool.{cases_lt, cases_eq}
 use Rattle.std.specs.List.{ContainsAt as Has, AllByRecursion}
 use Rattle.std.proofs.ByRecursion.{all-has}
 use Rattle.mesh.specs.Causes.{mesh_of}
 use Rattle.mesh.specs.Marks.{MarkWord}
 use Rattle.mesh.specs.Mesh.{Mesh, Counted, Lawful, mark, most_quads}
-use Rattle.mesh.specs.Refusals.{fine, declined, number_of, place_of}
-use Rattle.mesh.specs.declared.fault.Fault.{Fault}
+use Rattle.mesh.specs.Refusals.{fine}
 use Rattle.refinement.specs.Tasks.{Task, TaskOf, mark_writes, blank, runs, refine}
 use Rattle.refinement.proofs.Keeps.{refinement_keeps_lawful}
 use Rattle.refinement.proofs.Made.{any_list_of_tasks}
 use Rattle.refinement.proofs.OneProof.{lawful_shown}
 use Rattle.refinement.proofs.Order.{refined}
-use Rattle.tables.specs.Edges.{Reads}
 use Rattle.tables.specs.Lent.{mesh}
 use Rattle.tables.specs.declared.lent.Tables.{Tables}
-use Rattle.chain.specs.Calls.{Work, State, cause, and_next}
+use Rattle.chain.specs.Calls.{Work}
 use Rattle.layout.specs.Layout.{block, level_at, standing_in, work_in, Written}
 use Rattle.layout.proofs.Blocks.{length_block}
 use Rattle.bench.specs.State.{bench_at, Few, Room, Stands, Works}
 use Rattle.bench.specs.declared.stage.Stage.{Stage}
 use Rattle.bench.specs.declared.stage.Stage.TheVariants.{Standing, Working}
-use Rattle.bench.specs.Questions.{seen, unseen, counted, LawfulIf, Lent, Tells}
+use Rattle.bench.specs.Questions.{seen, unseen, LawfulIf, Lent}
 use Rattle.bench.specs.declared.level.Level.{Level}
 use Rattle.bench.specs.declared.level.Level.TheVariants.{Standing as LevelStanding, InWork}
 
@@ -116,30 +114,3 @@ module _ (mark-number F V : ℕ) (ws : List ℕ) (t : Tables) (s : Stage) where
       lent InWork (level_at ws (8 * F + V) (4 * F) (V + 3 * F)) (ap (λ x. unseen (bench_at x mark-number F V ws) InWork) e) (ap (λ x. seen (bench_at x mark-number F V ws) InWork) e)
       k (counted_level ws (8 * F + V) (4 * F) (V + 3 * F) (omega arith)) (omega arith) (omega arith)
       (λ o l. written_mark (standing_in ws F V) (work_in ws F V) (subst (λ x. ∥ Stands x F V ws ∥₁) e h) (subst (λ x. ∥ Works x F V ws ∥₁) e g) (omega arith) o (omega arith)) tt
-
--- an off-edge that cannot be read is none of the level
-pub unread : (s : State) (l : Level) (t : Tables) → Lent s l t → (o : ℕ) → (Reads (mesh t) o → ⊥) → 2 * (mesh t).quads ≤ o
-unread s l t b o n = elim (cases_lt o (2 * (mesh t).quads)) [
-  | inl h ↦
-      let f = b.shape.friend_count in
-      let g = b.shape.mark_count in
-      absurd (n (record { in_corners = h; in_friends = omega arith; in_marks = omega arith; a_mark = b.marks_are_words o h }))
-  | inr h ↦ h
-]
-
--- a question about number n
-module _ {A : Type 0} (s : State) (l : Level) (count : Mesh → ℕ) (n : ℕ) (Is : Mesh → A → Type 0) where
-  pub not_seen : (f : Fault) → unseen s l ≡ declined (number_of f) (place_of f) → Tells s l count n Is (Err f)
-  not_seen f e = ap (λ v. and_next v (cause 16 n (leb (counted count (seen s l)) n) fine)) e
-
-  pub no_such : (m : Mesh) (f : Fault) → unseen s l ≡ fine → seen s l ≡ Some m → count m ≤ n → declined 16 n ≡ declined (number_of f) (place_of f) → Tells s l count n Is (Err f)
-  no_such m f e k h d =
-      ap (λ v. and_next v (cause 16 n (leb (counted count (seen s l)) n) fine)) e ∙ ap (λ o. cause 16 n (leb (counted count o) n) fine) k
-      ∙ cond-true _ _ _ (le-leb _ _ h) ∙ d
-
-  pub tells : (m : Mesh) (x : A) → unseen s l ≡ fine → seen s l ≡ Some m → n < count m → Is m x → Tells s l count n Is (Ok x)
-  tells m x e k h is = (
-    ap (λ v. and_next v (cause 16 n (leb (counted count (seen s l)) n) fine)) e ∙ ap (λ o. cause 16 n (leb (counted count o) n) fine) k
-        ∙ cond-false _ _ _ (lt-leb _ _ h),
-    (m, k, is),
-  )

@@ -3,6 +3,7 @@ use crate::meshes::{Made, stands_lawful};
 use bench::bench::Bench;
 use bench::level::Level;
 use mesh::number::{Edge, OffEdge};
+use questions::Questions;
 use refining::once::refine_once;
 use requests::perform::work;
 use requests::request::{Answer, Request};

@@ -3,6 +3,7 @@ use crate::meshes::stands_lawful;
 use bench::bench::Bench;
 use bench::level::Level;
 use mesh::number::{Point, Quad};
+use questions::Questions;
 use requests::perform::work;
 use requests::request::{Answer, Request};
 use std::alloc::Global;

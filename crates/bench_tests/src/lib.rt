@@ -17,6 +17,7 @@ mod tests {
     use bench::bench::Bench;
     use bench::level::Level;
     use mesh::number::{Point, Quad};
+    use questions::Questions;
     use requests::perform::work;
     use requests::request::{Answer, Extent, Request};
 

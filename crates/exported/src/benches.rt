@@ -14,6 +14,7 @@ use crate::{Found, Refusal, Written};
 use bench::bench::Bench;
 use bench::level::Level;
 use mesh::fault::Fault;
+use questions::Questions;
 use refining::once::refine_once;
 use tables::lent::Tables;
 use text::write::write_text;

@@ -1,12 +1,12 @@
 // Questions to the levels of a bench, for their counts and their words.
 // Whoever lends the tables of a level answers them all, so code above can know a bench by its questions alone.
-#![tactic(auto)]
+#![tactic(auto, unfolding(mesh::specs::Causes::mesh_of))]
 
 ghost use Rattle.std.specs.Prelude.{◌*◌};
 ghost use Rattle.chain.specs.Calls.{State};
-ghost use Rattle.bench.specs.Questions.{Lends, Tells, CountsAre, CornerIs, EdgeIs, OffEdgeIs, FriendIs, StartIs};
+ghost use Rattle.bench.specs.Questions.{Lends};
 ghost use Rattle.bench.specs.Model.{state};
-ghost use Rattle.questions.specs.Questions.{QuadIs};
+ghost use Rattle.questions.specs.Questions.{Tells, CountsAre, CornerIs, EdgeIs, QuadIs, OffEdgeIs, FriendIs, StartIs};
 
 use bench::bench::Bench;
 use bench::level::Level;
@@ -36,11 +36,11 @@ pub trait Questions {
         ensures { Tells (asked self.now) level (λ m. 4 * m.quads) corner.0 (CornerIs corner.0) result }
     {
         let tables = self.lend(level)?;
-        let c = corner.0 as usize;
-        if c >= tables.corners.len() {
-            return Err(Fault::NoSuchNumber(corner.0));
-        }
-        Ok(Point(tables.corners[c]))
+        let point = tables
+            .corners
+            .get(corner.0 as usize)
+            .ok_or(Fault::NoSuchNumber(corner.0))?;
+        Ok(Point(*point))
     }
 
     // The points where an edge begins and ends.
@@ -48,14 +48,12 @@ pub trait Questions {
         ensures { Tells (asked self.now) level (λ m. 2 * m.quads) edge.0 (EdgeIs edge.0) result }
     {
         let tables = self.lend(level)?;
-        let e = edge.0 as usize;
-        if e >= tables.friends.len() {
-            return Err(Fault::NoSuchNumber(edge.0));
-        }
-        Ok((
-            Point(tables.corners[2 * e]),
-            Point(tables.corners[2 * e + 1]),
-        ))
+        let from = 2 * edge.0 as usize;
+        let ends = tables
+            .corners
+            .get(from..from + 2)
+            .ok_or(Fault::NoSuchNumber(edge.0))?;
+        Ok((Point(ends[0]), Point(ends[1])))
     }
 
     // The points of a quad, in winding order.
@@ -63,15 +61,16 @@ pub trait Questions {
         ensures { Tells (asked self.now) level (λ m. m.quads) quad.0 (QuadIs quad.0) result }
     {
         let tables = self.lend(level)?;
-        let q = quad.0 as usize;
-        if q >= tables.quads() {
-            return Err(Fault::NoSuchNumber(quad.0));
-        }
+        let from = 4 * quad.0 as usize;
+        let points = tables
+            .corners
+            .get(from..from + 4)
+            .ok_or(Fault::NoSuchNumber(quad.0))?;
         Ok([
-            Point(tables.corners[4 * q]),
-            Point(tables.corners[4 * q + 1]),
-            Point(tables.corners[4 * q + 2]),
-            Point(tables.corners[4 * q + 3]),
+            Point(points[0]),
+            Point(points[1]),
+            Point(points[2]),
+            Point(points[3]),
         ])
     }
 
@@ -80,10 +79,8 @@ pub trait Questions {
         ensures { Tells (asked self.now) level (λ m. 2 * m.quads) off.0 (OffEdgeIs off.0) result }
     {
         let tables = self.lend(level)?;
-        match tables.edge(off) {
-            Some(record) => Ok((record.begin, record.end, record.mark)),
-            None => Err(Fault::NoSuchNumber(off.0)),
-        }
+        let record = tables.edge(off).ok_or(Fault::NoSuchNumber(off.0))?;
+        Ok((record.begin, record.end, record.mark))
     }
 
     // The edge that runs the other way along an off-edge.
@@ -91,10 +88,8 @@ pub trait Questions {
         ensures { Tells (asked self.now) level (λ m. 2 * m.quads) off.0 (FriendIs off.0) result }
     {
         let tables = self.lend(level)?;
-        match tables.edge(off) {
-            Some(record) => Ok(record.friend),
-            None => Err(Fault::NoSuchNumber(off.0)),
-        }
+        let record = tables.edge(off).ok_or(Fault::NoSuchNumber(off.0))?;
+        Ok(record.friend)
     }
 
     // The corner where the walk of a point starts.
@@ -102,11 +97,11 @@ pub trait Questions {
         ensures { Tells (asked self.now) level (λ m. m.points) point.0 (StartIs point.0) result }
     {
         let tables = self.lend(level)?;
-        let v = point.0 as usize;
-        if v >= tables.starts.len() {
-            return Err(Fault::NoSuchNumber(point.0));
-        }
-        Ok(Corner(tables.starts[v]))
+        let start = tables
+            .starts
+            .get(point.0 as usize)
+            .ok_or(Fault::NoSuchNumber(point.0))?;
+        Ok(Corner(*start))
     }
 }
 

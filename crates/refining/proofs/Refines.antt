@@ -1,5 +1,6 @@
 -- The calls that refine a bench once, one after the other.
-use Rattle.std.proofs.Common.{◌≡◌, ℕ, zero, suc, ◌+◌, ◌-◌, ◌<◌, ◌≤◌, eqb, ltb, List, [], ◌∷◌, ◌++◌, map, get_or, Some, None, sym, refl, ap, ◌∙◌, inl, inr, arith}
+use Rattle.std.proofs.Common.{◌≡◌, ℕ, zero, suc, ◌+◌, ◌-◌, ◌<◌, ◌≤◌, eqb, ltb, List, [], ◌∷◌, ◌++◌, map, get_or, Some, None, Ok, Err, Result, sym, refl, ap, ◌∙◌, inl, inr, arith}
+use Rattle.std.specs.Result.{IsOk}
 use Rattle.std.specs.List.{range_with_len, AllByRecursion}
 use Rattle.std.proofs.lemmas.List.FromFn.{map-range_with_len_more}
 use Rattle.std.proofs.ByRecursion.{All-push}
@@ -7,7 +8,7 @@ use Rattle.std.proofs.lemmas.List.{append_assoc, append-nil}
 use Rattle.std.proofs.lemmas.Bool.{cases_lt, cond-false, lt-leb, le-ltb, eq-eqb, not_from_true}
 use Rattle.mesh.specs.Count.{least}
 use Rattle.mesh.specs.Mesh.{Mesh}
-use Rattle.mesh.specs.Refusals.{fine, declined}
+use Rattle.mesh.specs.Refusals.{fine, declined, number_of, place_of}
 use Rattle.refinement.specs.Tasks.{Task, TaskOf, quad_task, point_task, number, blank, runs, tasks, refine}
 use Rattle.refinement.proofs.Order.{work_goes_on, tasks_are, tasks_all}
 use Rattle.refinement.proofs.Totals.{least_none}
@@ -16,8 +17,9 @@ use Rattle.chain.specs.Clauses.{run_on}
 use Rattle.chain.specs.History.{ran_words, work_on}
 use Rattle.chain.proofs.Flags.{ran_none, ran_push, ran_tells}
 use Rattle.bench.specs.State.{bench_at}
-use Rattle.bench.specs.Model.{state}
+use Rattle.bench.specs.Model.{state, told_slip}
 use Rattle.bench.specs.declared.bench.Bench.{Bench}
+use Rattle.bench.specs.declared.bench.slip.Declined.{Declined}
 use Rattle.bench.specs.declared.stage.Stage.{Stage}
 use Rattle.bench.specs.declared.stage.Stage.TheVariants.{Empty, Standing, Working}
 use Rattle.refining.specs.Once.{RefinedOnce}
@@ -121,28 +123,28 @@ pub record AllRan (s t : State) (m : Mesh) : Type 0 where
   pub ran : t ≡ after s.words s.mark m (tasks m)
 
 -- s before begin, b after it, k after the quads and t after the points
-pub all_ran : (s b k t : State) (m : Mesh) (F V : ℕ) → refusal s begin ≡ fine → b ≡ next s begin → b.standing ≡ Some m → F ≡ m.quads → V ≡ m.points →
+pub all_ran : (s : State) {b k t : State} {m : Mesh} {F V : ℕ} → fine ≡ refusal s begin → b ≡ next s begin → b.standing ≡ Some m → F ≡ m.quads → V ≡ m.points →
     k ≡ run_on b (map quad (range_with_len 0 F)) → t ≡ run_on k (map point (range_with_len 0 V)) → AllRan s t m
-all_ran s b k t m F V f e o eF eV ek et =
-    let stood : s.standing ≡ Some m = sym (ap (λ (x : State). x.standing) (e ∙ carried_out s begin f)) ∙ o in
-    let quads : k ≡ run_on (after s.words s.mark m []) (map quad (range_with_len 0 m.quads)) = ek ∙ ap (λ n. run_on b (map quad (range_with_len 0 n))) eF ∙ ap (λ x. run_on x (map quad (range_with_len 0 m.quads))) (e ∙ begun s m f stood) in
+all_ran s {b} {k} {t} {m} {F} {V} f e o eF eV ek et =
+    let stood : s.standing ≡ Some m = sym (ap (λ (x : State). x.standing) (e ∙ carried_out s begin (sym f))) ∙ o in
+    let quads : k ≡ run_on (after s.words s.mark m []) (map quad (range_with_len 0 m.quads)) = ek ∙ ap (λ n. run_on b (map quad (range_with_len 0 n))) eF ∙ ap (λ x. run_on x (map quad (range_with_len 0 m.quads))) (e ∙ begun s m (sym f) stood) in
     record {
       stood = stood;
       ran = et ∙ ap (λ n. run_on k (map point (range_with_len 0 n))) eV ∙ ap (λ x. run_on x (map point (range_with_len 0 m.points))) quads ∙ tasks_run s.words s.mark m;
     }
 
--- then finish with the slip of this bench is not refused
-pub not_refused : (s t : State) (m : Mesh) (slip n p : ℕ) → AllRan s t m → slip ≡ s.mark → declined n p ≡ refusal t (finish slip) → ⊥
-not_refused s t m slip n p a e r =
-    let f : declined n p ≡ fine = r ∙ ap (λ x. refusal t (finish x)) e ∙ ap (λ x. refusal x (finish s.mark)) a.ran ∙ finish_fine s.words s.mark m in
-    let z : ◌≡◌ {A = ℕ} 0 1 = cc in
-    absurd (omega arith)
+-- then finish with the slip of this bench is carried out
+pub finishes : {s t : State} {m : Mesh} {slip : ℕ} (r : Result Unit Declined) → AllRan s t m → slip ≡ s.mark → told_slip r ≡ refusal t (finish slip) → IsOk r
+finishes (Ok x) a e r = refl
+finishes {s} {t} {m} (Err d) a e r =
+    let f : declined (number_of d.fault) (place_of d.fault) ≡ fine = r ∙ ap (λ x. refusal t (finish x)) e ∙ ap (λ x. refusal x (finish s.mark)) a.ran ∙ finish_fine s.words s.mark m in
+    cc
 
 -- and leaves m refined
-pub refined : (s t exit : State) (m : Mesh) (slip : ℕ) → fine ≡ refusal s begin → AllRan s t m → slip ≡ s.mark → exit ≡ next t (finish slip) → RefinedOnce s exit fine
-refined s t exit m slip f a e r = record {
+pub refined : {s t exit : State} {m : Mesh} {slip : ℕ} → fine ≡ refusal s begin → AllRan s t m → slip ≡ s.mark → exit ≡ next t (finish slip) → RefinedOnce s exit fine
+refined {s} {t} {exit} {m} f a e r = record {
   answers = f;
-  refused_leaves = λ n p d. let z : ◌≡◌ {A = ℕ} 0 1 = cc in absurd (omega arith);
+  refused_leaves = λ n p d. cc;
   refines = λ w _ o.
       let same : m ≡ w = let stood = a.stood in cc in
       r ∙ ap (λ x. next t (finish x)) e ∙ ap (λ x. next x (finish s.mark)) a.ran ∙ finish_leaves s.words s.mark m ∙ ap (λ x. holding s (Some (refine x)) None) same;

@@ -18,6 +18,7 @@ mod tests {
     use kinds::row::Rowed;
     use mesh::fault::Fault;
     use mesh::number::OffEdge;
+    use questions::Questions;
     use refining::once::refine_once;
     use tables::lent::Tables;
 
