@@ -1,4 +1,5 @@
-// The calls of `exported`, for a program in Rust or C that compares the built code with an implementation of its own.
+// Calls for a program in Rust or C that compares the built code with an implementation of its own, or times it.
+// The C interface has the four tables as slices apart, and answers in numbers.
 #![tactic(auto)]
 
 ghost use Rattle.attributes.specs.Colours.{middle_of as colour_middle, row_of as colour_row, verdict_of as colour_verdict};
@@ -16,7 +17,16 @@ ghost use Rattle.lines.specs.Text.{mesh_text};
 ghost use Rattle.mesh.specs.Causes.{judge, mesh_of};
 ghost use Rattle.std.specs.Prelude.{◌≡◌, ◌++◌, drop, length, map};
 
+use attributes::colour::Colour;
+use attributes::coordinates::Coordinates;
+use attributes::influence::Influence;
+use attributes::texture::Texture;
+use bench::bench::Bench;
+use carry::lent;
+use exported::benches::{copy_standing, load_and_refine, load_and_write};
 use exported::{Found, Refusal, Written};
+use lines::{TablesMut, read, read_counts};
+use tables::lent::Tables;
 
 // Reads a text into four lent tables.
 #[unsafe(no_mangle)]
@@ -30,7 +40,13 @@ pub extern "C" fn mesh_read(
     ensures answer { result ≡ found_of (answer (reading text.now (room corners.old friends.old marks.old starts.old))) }
     ensures tables { Holds (reading text.now (room corners.old friends.old marks.old starts.old)) corners.old friends.old marks.old starts.old corners.new friends.new marks.new starts.new }
 {
-    exported::mesh_read(text, corners, friends, marks, starts)
+    let mut tables = TablesMut {
+        corners,
+        friends,
+        marks,
+        starts,
+    };
+    Found::from(read(text, &mut tables))
 }
 
 // Reads line 0 of a text.
@@ -38,7 +54,7 @@ pub extern "C" fn mesh_read(
 pub extern "C" fn mesh_read_counts(text: &[u8]) -> Found
     ensures { result ≡ found_of (heading text.now) }
 {
-    exported::mesh_read_counts(text)
+    Found::from(read_counts(text))
 }
 
 // Judges whether four tables are a lawful mesh.
@@ -51,7 +67,13 @@ pub extern "C" fn mesh_judge(
 ) -> Refusal
     ensures { result ≡ refusal_of (judge (mesh_of corners.now friends.now marks.now starts.now)) }
 {
-    exported::mesh_judge(corners, friends, marks, starts)
+    let tables = Tables {
+        corners,
+        friends,
+        marks,
+        starts,
+    };
+    Refusal::from(tables.judge())
 }
 
 // Loads a bench over these words from four tables, refines it so many times or until a refinement is refused, and copies what stands then to `out`.
@@ -69,7 +91,16 @@ pub extern "C" fn mesh_refine(
     ensures answer { result ≡ found_at (refine_verdict (length words.old) mark (mesh_of corners.now friends.now marks.now starts.now) levels) (refine_standing (length words.old) mark (mesh_of corners.now friends.now marks.now starts.now) levels) }
     ensures level { out.new ≡ copied (refine_standing (length words.old) mark (mesh_of corners.now friends.now marks.now starts.now) levels) out.old }
 {
-    exported::benches::mesh_refine(words, mark, corners, friends, marks, starts, levels, out)
+    let tables = Tables {
+        corners,
+        friends,
+        marks,
+        starts,
+    };
+    let mut bench = Bench::new(words, mark);
+    let answer = load_and_refine(&mut bench, &tables, levels);
+    copy_standing(&bench, out);
+    Found::standing(answer, &bench)
 }
 
 // Loads a bench over these words from four tables, and writes its text to the front of `out`.
@@ -86,7 +117,14 @@ pub extern "C" fn mesh_write(
     ensures answer { result ≡ written_of (write_verdict (made (length words.old) mark) (mesh_of corners.now friends.now marks.now starts.now) (length out.old)) (length (mesh_text (mesh_of corners.now friends.now marks.now starts.now))) }
     ensures text { Becomes (write_verdict (made (length words.old) mark) (mesh_of corners.now friends.now marks.now starts.now) (length out.old)) out.old (mesh_text (mesh_of corners.now friends.now marks.now starts.now) ++ drop (length (mesh_text (mesh_of corners.now friends.now marks.now starts.now))) out.old) out.new }
 {
-    exported::benches::mesh_write(words, mark, corners, friends, marks, starts, out)
+    let tables = Tables {
+        corners,
+        friends,
+        marks,
+        starts,
+    };
+    let mut bench = Bench::new(words, mark);
+    Written::from(load_and_write(&mut bench, &tables, out))
 }
 
 // Coordinates on points.
@@ -102,7 +140,13 @@ pub extern "C" fn mesh_values_coordinates(
     ensures answer { result ≡ refusal_of (values_refusal coordinates_verdict (mesh_of corners.now friends.now marks.now starts.now) rows.now (length out.old)) }
     ensures written { Becomes (values_refusal coordinates_verdict (mesh_of corners.now friends.now marks.now starts.now) rows.now (length out.old)) out.old (map coordinates_row (values_of blend_of (mesh_of corners.now friends.now marks.now starts.now) (values_made coordinates_verdict rows.now))) out.new }
 {
-    exported::next_level::mesh_values_coordinates(corners, friends, marks, starts, rows, out)
+    let tables = Tables {
+        corners,
+        friends,
+        marks,
+        starts,
+    };
+    Refusal::from(lent::values::<Coordinates>(&tables, rows, out))
 }
 
 // Influences on points.
@@ -118,7 +162,13 @@ pub extern "C" fn mesh_values_influences(
     ensures answer { result ≡ refusal_of (values_refusal influence_verdict (mesh_of corners.now friends.now marks.now starts.now) rows.now (length out.old)) }
     ensures written { Becomes (values_refusal influence_verdict (mesh_of corners.now friends.now marks.now starts.now) rows.now (length out.old)) out.old (map influence_row (values_of union (mesh_of corners.now friends.now marks.now starts.now) (values_made influence_verdict rows.now))) out.new }
 {
-    exported::next_level::mesh_values_influences(corners, friends, marks, starts, rows, out)
+    let tables = Tables {
+        corners,
+        friends,
+        marks,
+        starts,
+    };
+    Refusal::from(lent::values::<Influence>(&tables, rows, out))
 }
 
 // Texture pairs on corners.
@@ -134,7 +184,13 @@ pub extern "C" fn mesh_corners_textures(
     ensures answer { result ≡ refusal_of (corners_refusal texture_verdict (mesh_of corners.now friends.now marks.now starts.now) rows.now (length out.old)) }
     ensures written { Becomes (corners_refusal texture_verdict (mesh_of corners.now friends.now marks.now starts.now) rows.now (length out.old)) out.old (map texture_row (corners_of texture_middle (values_made texture_verdict rows.now))) out.new }
 {
-    exported::next_level::mesh_corners_textures(corners, friends, marks, starts, rows, out)
+    let tables = Tables {
+        corners,
+        friends,
+        marks,
+        starts,
+    };
+    Refusal::from(lent::corners::<Texture>(&tables, rows, out))
 }
 
 // Colours on corners.
@@ -150,5 +206,11 @@ pub extern "C" fn mesh_corners_colours(
     ensures answer { result ≡ refusal_of (corners_refusal colour_verdict (mesh_of corners.now friends.now marks.now starts.now) rows.now (length out.old)) }
     ensures written { Becomes (corners_refusal colour_verdict (mesh_of corners.now friends.now marks.now starts.now) rows.now (length out.old)) out.old (map colour_row (corners_of colour_middle (values_made colour_verdict rows.now))) out.new }
 {
-    exported::next_level::mesh_corners_colours(corners, friends, marks, starts, rows, out)
+    let tables = Tables {
+        corners,
+        friends,
+        marks,
+        starts,
+    };
+    Refusal::from(lent::corners::<Colour>(&tables, rows, out))
 }
