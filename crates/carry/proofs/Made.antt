@@ -1,10 +1,14 @@
 -- Rows that all make values: which, and how many.
-use Rattle.std.proofs.Common.{◌≡◌, ℕ, zero, suc, ◌*◌, ◌<◌, ◌≤◌, Bool, true, false, List, [], ◌∷◌, ◌++◌, map, length, get_or, is_ok, Ok, Err, Result, sym, refl, ap, ◌∙◌, arith}
+use Rattle.std.proofs.Common.{◌≡◌, ℕ, zero, suc, ◌*◌, ◌<◌, ◌≤◌, Bool, true, false, List, [], ◌∷◌, ◌++◌, ◌⊎◌, map, length, get_or, is_ok, is_err, Ok, Err, Result, Some, None, position, sym, refl, ap, ◌∙◌, inl, inr, arith}
+use Rattle.std.specs.List.{position_or_len}
 use Rattle.std.proofs.lemmas.List.{get_or-map}
-use Rattle.std.proofs.lemmas.Bool.{and_parts, eqb-true, leb-true}
+use Rattle.std.proofs.lemmas.List.Quantifiers.{position-Some}
+use Rattle.std.proofs.lemmas.List.Sums.{fails_before_first}
+use Rattle.std.proofs.lemmas.Bool.{and_parts, cases_lt, cond-true, eqb-true, leb-true, lt-ltb}
 use Rattle.mesh.specs.Causes.{once}
 use Rattle.mesh.specs.Mesh.{most_quads}
 use Rattle.mesh.specs.Refusals.{Verdict, fine, declined}
+use Rattle.refinement.proofs.Causes.{each_fault, each_on}
 use Rattle.tables.proofs.Passes.{each_passed}
 use Rattle.carry.specs.Rows.{first_of, made, refusal, rows_refusal, the_value}
 
@@ -52,6 +56,36 @@ module _ {V : Type 0} where
 
       pub length_made : length (made verdict rows) ≡ length rows
       length_made = length_of rows all_make
+
+-- the first row that makes no value, if there is one
+module _ {V R : Type 0} (verdict : R → Result V ℕ) where
+  ok_from : (x : Result V ℕ) → is_err x ≡ false → is_ok x ≡ true
+  ok_from (Ok v) e = refl
+  ok_from (Err c) e = absurd (let n : ◌≡◌ {A = ℕ} 0 1 = cc in omega arith)
+
+  not_ok_from : (x : Result V ℕ) → is_err x ≡ true → is_ok x ≡ false
+  not_ok_from (Ok v) e = absurd (let n : ◌≡◌ {A = ℕ} 0 1 = cc in omega arith)
+  not_ok_from (Err c) e = refl
+
+  right_before : (rows : List R) (d : R) (k : ℕ) → k < length rows → k < position_or_len (λ r. is_err (verdict r)) rows → get_or (map (λ r. is_ok (verdict r)) rows) k true ≡ true
+  right_before rows d k l h = get_or-map (λ r. is_ok (verdict r)) rows k d true l ∙ ok_from _ (fails_before_first (λ r. is_err (verdict r)) rows k d h)
+
+  pub none_wrong : (rows : List R) → position (λ r. is_err (verdict r)) rows ≡ None → rows_refusal verdict rows ≡ fine
+  unfolding rows_refusal
+  none_wrong [] e = each_on 20 _ 0 fine (λ i l. absurd (omega arith))
+  none_wrong (r ∷ rs) e = each_on 20 _ _ fine (λ i l. right_before (r ∷ rs) r i l (before (cases_lt (position_or_len (λ r. is_err (verdict r)) (r ∷ rs)) (length (r ∷ rs))) i l))
+    where
+      before : (position_or_len (λ r. is_err (verdict r)) (r ∷ rs) < length (r ∷ rs)) ⊎ (length (r ∷ rs) ≤ position_or_len (λ r. is_err (verdict r)) (r ∷ rs)) → (i : ℕ) → i < length (r ∷ rs) → i < position_or_len (λ r. is_err (verdict r)) (r ∷ rs)
+      before (inl l) i h = absurd (let s = sym (cond-true _ _ _ (lt-ltb _ _ l)) ∙ e in let n : ◌≡◌ {A = ℕ} 0 1 = cc in omega arith)
+      before (inr g) i h = omega arith
+
+  pub first_wrong : (rows : List R) (i : ℕ) → position (λ r. is_err (verdict r)) rows ≡ Some i → rows_refusal verdict rows ≡ declined 20 i
+  unfolding rows_refusal
+  first_wrong [] i e = absurd (let n : ◌≡◌ {A = ℕ} 0 1 = cc in omega arith)
+  first_wrong (r ∷ rs) i e =
+      let p = position-Some (λ r. is_err (verdict r)) (r ∷ rs) i r e in
+      each_fault 20 _ _ fine i p.0 (get_or-map (λ r. is_ok (verdict r)) (r ∷ rs) i r true p.0 ∙ not_ok_from _ p.1)
+      (λ k l. get_or-map (λ r. is_ok (verdict r)) (r ∷ rs) k r true (omega arith) ∙ ok_from _ (p.2 k l))
 
 -- what a call that is not refused may go by
 once_both : (k : ℕ) (ok : Bool) (next : Verdict) → fine ≡ once k ok next → (ok ≡ true) × (fine ≡ next)

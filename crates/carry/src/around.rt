@@ -2,16 +2,14 @@
 ghost use Rattle.std.specs.Prelude.{◌≡◌, ℕ, ◌+◌, ◌*◌, ◌<◌, ◌≤◌, List, [], ◌∷◌, ◌++◌, if◌then◌else◌, nat_lt};
 ghost use Rattle.carried.specs.Blends.{marked as marked_at, sharpness as sharpness_at};
 ghost use Rattle.mesh.specs.Marks.{word_of};
-ghost use Rattle.mesh.specs.Mesh.{Lawful, Mesh, mark as mark_word, off_edge, step as step_from, valence as valence_at};
+ghost use Rattle.mesh.specs.Mesh.{Mesh, mark as mark_word, off_edge, valence as valence_at};
 ghost use Rattle.tables.specs.Lent.{mesh};
 ghost use Rattle.carry.specs.Walks.{Seen};
 
-use crate::mix::record_of;
 use crate::seen::Around;
 use mesh::mark::Mark;
 use mesh::number::{Corner, Point};
-use tables::corner::off_edge;
-use tables::lent::Tables;
+use tables::lawful::LawfulTables;
 
 impl Around {
     // The same with one corner more, whose off-edge has this mark.
@@ -59,37 +57,13 @@ impl Around {
     }
 }
 
-// A step from a corner: the mark of the off-edge there, and the corner that it is to.
-pub(crate) fn step<'a>(tables: &Tables<'a>, corner: Corner) -> (Mark, Corner)
-    requires lawful { Lawful (mesh tables.now) }
-    requires within { corner.0 < 4 * (mesh tables.now).quads }
-    ensures marks { word_of result.0 ≡ mark_word (mesh tables.now) (off_edge corner.0) }
-    ensures goes { result.1.0 ≡ step_from (mesh tables.now) corner.0 }
-    ensures below { result.1.0 < 4 * (mesh tables.now).quads }
-{
-    let record = record_of(tables, off_edge(corner));
-    (record.mark, Corner(2 * record.friend.0 + corner.0 % 2))
-}
-
-// The corner that a step from a corner is to. Where the mark is not asked for, its word is not read.
-pub(crate) fn next_corner<'a>(tables: &Tables<'a>, corner: Corner) -> Corner
-    requires lawful { Lawful (mesh tables.now) }
-    requires within { corner.0 < 4 * (mesh tables.now).quads }
-    ensures goes { result.0 ≡ step_from (mesh tables.now) corner.0 }
-    ensures below { result.0 < 4 * (mesh tables.now).quads }
-{
-    let off = off_edge(corner).0 as usize;
-    Corner(2 * tables.friends[off] + corner.0 % 2)
-}
-
 // What the walk at a point meets, until it is back.
-pub(crate) fn around<'a>(tables: &Tables<'a>, point: Point) -> Around
-    requires lawful { Lawful (mesh tables.now) }
-    requires within { point.0 < (mesh tables.now).points }
-    ensures steps { result.valence ≡ valence_at (mesh tables.now) point.0 }
-    ensures sees { Seen (mesh tables.now) (marked_at (mesh tables.now) point.0) result }
+pub(crate) fn around<'a>(level: &LawfulTables<'a>, point: Point) -> Around
+    requires within { point.0 < (mesh level.now.tables).points }
+    ensures steps { result.valence ≡ valence_at (mesh level.now.tables) point.0 }
+    ensures sees { Seen (mesh level.now.tables) (marked_at (mesh level.now.tables) point.0) result }
 {
-    let start = tables.starts[point.0 as usize];
+    let start = level.tables.starts[point.0 as usize];
     let mut corner = Corner(start);
     let mut seen = Around {
         valence: 0,
@@ -98,7 +72,7 @@ pub(crate) fn around<'a>(tables: &Tables<'a>, point: Point) -> Around
         infinite: false,
     };
     loop {
-        let (mark, next) = step(tables, corner);
+        let (mark, next) = level.marked_step(corner);
         seen = seen.more(mark);
         corner = next;
         if corner.0 == start {

@@ -1,11 +1,11 @@
 // Corner values of the next level: quad by quad, four rows to sixteen.
 ghost use Rattle.std.specs.Prelude.{◌≡◌, ℕ, ◌+◌, ◌*◌, ◌^◌, ◌<◌, ◌≤◌, map, length, MatchResult, slice_set};
-ghost use Rattle.mesh.specs.Refusals.{told, fine};
+ghost use Rattle.mesh.specs.Refusals.{told};
 ghost use Rattle.carried.specs.Corners.{corners};
 ghost use Rattle.carry.specs.Corners.{Upto};
-ghost use Rattle.carry.specs.Rows.{made, refusal, rows_refusal};
+ghost use Rattle.carry.specs.Rows.{made, refusal};
 
-use crate::rows::{judge, value_at};
+use crate::rows::{Rows, Sizes};
 use kinds::corner::CornerKind;
 use kinds::row::Rowed;
 use mesh::fault::Fault;
@@ -22,16 +22,15 @@ fn put<C: CornerKind>(out: &mut [C::Row], first: usize, a: &C, b: &C, c: &C, d: 
 }
 
 // Writes the rows of the four new quads of quad q, whose rows before are right.
-fn put_quad<C: CornerKind>(rows: &[C::Row], q: usize, out: &mut [C::Row])
-    requires all { rows_refusal C.Rowed.verdict rows.now ≡ fine }
-    requires within { 4 * q + 4 ≤ length rows.now }
+fn put_quad<'r, C: CornerKind>(rows: &Rows<'r, C>, q: usize, out: &mut [C::Row])
+    requires within { 4 * q + 4 ≤ length rows.now.rows.now }
     requires room { 16 * q + 16 ≤ length out.old }
-    ensures { (n : ℕ) → length rows.now ≡ 4 * n → Upto C.Rowed.row (corners C.middle (made C.Rowed.verdict rows.now)) out.old (16 * q) → Upto C.Rowed.row (corners C.middle (made C.Rowed.verdict rows.now)) out.new (16 * q + 16) }
+    ensures { (n : ℕ) → length rows.now.rows.now ≡ 4 * n → Upto C.Rowed.row (corners C.middle (made C.Rowed.verdict rows.now.rows.now)) out.old (16 * q) → Upto C.Rowed.row (corners C.middle (made C.Rowed.verdict rows.now.rows.now)) out.new (16 * q + 16) }
 {
-    let a = value_at::<C>(rows, 4 * q);
-    let b = value_at::<C>(rows, 4 * q + 1);
-    let c = value_at::<C>(rows, 4 * q + 2);
-    let d = value_at::<C>(rows, 4 * q + 3);
+    let a = rows.value(4 * q);
+    let b = rows.value(4 * q + 1);
+    let c = rows.value(4 * q + 2);
+    let d = rows.value(4 * q + 3);
     let ab = a.midway(&b);
     let bc = b.midway(&c);
     let cd = c.midway(&d);
@@ -53,9 +52,17 @@ pub(crate) fn carry<C: CornerKind>(
     ensures verdict { told result ≡ refusal C.Rowed.verdict quads (4 * quads) (16 * quads) rows.now (length out.old) }
     ensures written { MatchResult result (λ _. out.new ≡ map C.Rowed.row (corners C.middle (made C.Rowed.verdict rows.now))) (λ _. out.new ≡ out.old) }
 {
-    judge::<C>(quads, 4 * quads, 16 * quads, rows, out.len())?;
+    let rows = Rows::<C>::accepted(
+        rows,
+        Sizes {
+            quads,
+            standing: 4 * quads,
+            new: 16 * quads,
+            room: out.len(),
+        },
+    )?;
     for q in 0..quads {
-        put_quad::<C>(rows, q, out);
+        put_quad(&rows, q, out);
     }
     Ok(())
 }

@@ -12,6 +12,7 @@ use kinds::corner::CornerKind;
 use kinds::row::Rowed;
 use kinds::value::ValueKind;
 use mesh::fault::Fault;
+use tables::lawful::LawfulTables;
 use tables::lent::Tables;
 
 // Writes the corner values of the next level: from the rows of the 4F that stand, the rows of 16F. A refusal writes nothing.
@@ -36,6 +37,6 @@ pub fn values<'a, K: ValueKind>(
     ensures verdict { told result ≡ values_refusal K.Rowed.verdict (mesh tables.now) rows.now (length out.old) }
     ensures written { MatchResult result (λ _. out.new ≡ map K.Rowed.row (values_of K.blended (mesh tables.now) (made K.Rowed.verdict rows.now))) (λ _. out.new ≡ out.old) }
 {
-    tables.judge()?;
-    carry_values::<K>(tables, rows, out)
+    let level = LawfulTables::judged(*tables)?;
+    carry_values::<K>(level, rows, out)
 }

@@ -9,4 +9,5 @@ mod moved;
 mod rows;
 mod seen;
 pub mod standing;
+mod valued;
 mod values;

@@ -16,6 +16,7 @@ use kinds::corner::CornerKind;
 use kinds::row::Rowed;
 use kinds::value::ValueKind;
 use mesh::fault::Fault;
+use tables::lawful::LawfulTables;
 
 // Writes the values of the next level: from the rows of the V that stand, the rows of V + 3F. They stay in every range that held those.
 // A refusal writes nothing.
@@ -29,7 +30,8 @@ pub fn values<'a, K: ValueKind>(
     ensures range { OnOk result (InEveryRange K.lies K.Rowed.verdict rows.now out.new) }
 {
     let standing = bench.tables(Level::Standing)?;
-    carry_values::<K>(&standing, rows, out)
+    let level = LawfulTables { tables: standing };
+    carry_values::<K>(level, rows, out)
 }
 
 // Writes the corner values of the next level: from the rows of the 4F that stand, the rows of 16F. Sides that agreed still agree.

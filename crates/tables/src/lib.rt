@@ -4,5 +4,6 @@
 pub mod corner;
 pub mod edge;
 pub mod judge;
+pub mod lawful;
 pub mod lent;
 pub mod slot;

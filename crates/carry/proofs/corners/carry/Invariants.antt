@@ -6,4 +6,4 @@ use Rattle.carry.proofs.corners.carry.Given as goal
 
 -- the rows of the quads so far are right
 abbrev pub invariant-loop-q : goal.invariant-loop-q
-invariant-loop-q g l = Upto g.C.Rowed.row (corners g.C.CornerKind.middle (made g.C.Rowed.verdict l.rows)) l.out (16 * l.q)
+invariant-loop-q g l = Upto g.C.Rowed.row (corners g.C.CornerKind.middle (made g.C.Rowed.verdict l.rows.rows.now)) l.out (16 * l.q)

@@ -13,9 +13,6 @@ returns-in_err-standing g c =
     let p = err_from_is_err_and c.from_residual.result c.from_residual.ensures.1 in
     rw (p.1, p.2) (record { verdict = asked_none (state c.args.bench.now).standing _ _ _ c.in_err-standing.ensures; written = refl; range = tt })
 
-pub carry-requires : goal.carry-requires
-carry-requires g c = c.in_ok-standing.ensures.lawful
-
 pub returns : goal.returns
 returns g c =
     let v = g.K.Rowed.verdict in
