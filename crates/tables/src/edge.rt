@@ -29,6 +29,7 @@ impl<'a> Tables<'a> {
     }
 
     // The record of an off-edge that has this mark.
+    #[tactic(auto, unfolding(mesh::specs::Causes::mesh_of, mesh::specs::Mesh::begins, mesh::specs::Mesh::ends))]
     fn record_with(&self, off: OffEdge, mark: Mark) -> EdgeRecord
         requires { (Reads (mesh self.now) off.0) × (word_of mark ≡ mark_word (mesh self.now) off.0) }
         ensures { RecordOf (mesh self.now) off.0 result }
@@ -64,6 +65,7 @@ impl<'a> Tables<'a> {
     }
 
     // The corner a step on, along the off-edge at this one to its friend; None where that is no corner of a mesh.
+    #[tactic(auto, using(crate::proofs::Reading::step_by))]
     pub fn step(&self, corner: Corner) -> Option<Corner>
         ensures { StepAnswer (mesh self.now) corner.0 result }
     {

@@ -20,9 +20,10 @@ const SHORTEST: u32 = 2;
 const LONGEST: u32 = 64;
 
 impl<'a> Tables<'a> {
-    // 1: the tables have the lengths that go together.
-    fn judge_shape(&self) -> Result<(), Fault>
-        ensures { (rest : Verdict) → told_or result rest ≡ once 1 (shape_ok (mesh self.now)) rest }
+    // 1 to 3: the tables have the lengths that go together, and there are so many quads and points.
+    fn judge_counts(&self) -> Result<(), Fault>
+        ensures verdict { (rest : Verdict) → told_or result rest ≡ once 1 (shape_ok (mesh self.now)) (once 2 (quads_ok (mesh self.now)) (once 3 (points_ok (mesh self.now)) rest)) }
+        ensures sized { IfOk result (λ _. Sized (mesh self.now)) }
     {
         let quads = self.quads();
         if self.corners.len() != 4 * quads
@@ -31,25 +32,9 @@ impl<'a> Tables<'a> {
         {
             return Err(Fault::Shape);
         }
-        Ok(())
-    }
-
-    // 2: so many quads.
-    fn judge_quads(&self) -> Result<(), Fault>
-        ensures { (rest : Verdict) → told_or result rest ≡ once 2 (quads_ok (mesh self.now)) rest }
-    {
-        let quads = self.quads();
         if !(FEWEST_QUADS..=MOST_QUADS).contains(&quads) {
             return Err(Fault::QuadCount);
         }
-        Ok(())
-    }
-
-    // 3: so many points.
-    fn judge_points(&self) -> Result<(), Fault>
-        ensures { (rest : Verdict) → told_or result rest ≡ once 3 (points_ok (mesh self.now)) rest }
-    {
-        let quads = self.quads();
         if !(quads..=2 * quads).contains(&self.starts.len()) {
             return Err(Fault::PointCount);
         }
@@ -128,6 +113,7 @@ impl<'a> Tables<'a> {
     }
 
     // The corner a step on from a corner of the tables.
+    #[tactic(auto, using(crate::proofs::Reading::step_by))]
     fn next(&self, corner: Corner) -> Corner
         requires { (Worded (mesh self.now)) × (corner.0 < 4 * (mesh self.now).quads) }
         ensures is { result.0 ≡ step (mesh self.now) corner.0 }
@@ -183,9 +169,7 @@ impl<'a> Tables<'a> {
     pub fn judge(&self) -> Result<(), Fault>
         ensures { told result ≡ judge (mesh self.now) }
     {
-        self.judge_shape()?;
-        self.judge_quads()?;
-        self.judge_points()?;
+        self.judge_counts()?;
         self.judge_corners()?;
         self.judge_friends()?;
         self.judge_marks()?;
