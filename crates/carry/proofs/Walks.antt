@@ -1,5 +1,6 @@
 -- A walk corner by corner: the marks that it meets, and when it is back.
-use Rattle.std.proofs.Common.{◌≡◌, ℕ, ◌+◌, ◌*◌, ◌<◌, ◌≤◌, min, Bool, true, false, cond, ◌||◌, eqb, ltb, List, [], ◌∷◌, ◌++◌, length, sum, sym, ap, ◌∙◌, subst, inl, inr, arith}
+use Rattle.std.proofs.Common.{◌≡◌, ℕ, ◌+◌, ◌*◌, ◌<◌, ◌≤◌, min, Bool, true, false, cond, ◌||◌, eqb, ltb, List, [], ◌∷◌, ◌++◌, length, sum, Some, None, Option, sym, ap, ◌∙◌, subst, inl, inr, arith}
+use Rattle.std.specs.Option.{option_map, option_map_or}
 use Rattle.std.proofs.lemmas.List.FromFn.{filter_of_map_range_with_len_more, length-map-range_with_len}
 use Rattle.std.proofs.lemmas.List.{append-nil, length_push, map_push}
 use Rattle.std.proofs.lemmas.List.Sums.{count_by-le-length, length-filter, sum_by_push}
@@ -7,7 +8,7 @@ use Rattle.std.proofs.lemmas.Bool.{cases_Bool, cases_eq, cond-false, cond-true, 
 use Rattle.mesh.specs.Mesh.{Mesh, Sound, mark, off_edge, start, walk, valence, longest, diagonal, other_end}
 use Rattle.refinement.proofs.Walks.{walk_back, walk_below, walk_not_back}
 use Rattle.carried.specs.Blends.{around, marked, sharpness, some_infinite}
-use Rattle.carry.specs.Walks.{Seen, marked_met, marks_at, met}
+use Rattle.carry.specs.Walks.{Seen, finite_sum, marked_met, marks_at, met}
 use Rattle.carry.specs.declared.seen.Around.{Around}
 
 -- ---- one mark more
@@ -22,6 +23,15 @@ push_infinite (x ∷ ws) w e = elim (cases_Bool (eqb x 65535)) [
   | inr f ↦ ap (λ b. b || some_infinite (ws ++ w ∷ [])) f ∙ push_infinite ws w e
 ]
 
+-- the sum with it
+sum_push : (ws : List ℕ) (x : ℕ) → x < 65535 → option_map (λ n. n + x) (finite_sum ws) ≡ finite_sum (ws ++ x ∷ [])
+sum_push ws x l =
+    let more = push_finite ws x (ne_eqb x 65535 (λ z. omega arith)) in
+    elim (cases_Bool (some_infinite ws)) [
+      | inl t ↦ ap (option_map (λ n. n + x)) (cond-true _ _ _ t) ∙ sym (cond-true _ _ _ (more ∙ t))
+      | inr f ↦ ap (option_map (λ n. n + x)) (cond-false _ _ _ f) ∙ ap Some (sym (sum_by_push (λ x. x) ws x)) ∙ sym (cond-false _ _ _ (more ∙ f))
+    ]
+
 module _ (m : Mesh) (cs : List ℕ) (c : ℕ) where
   marks_push : marks_at m (cs ++ c ∷ []) ≡ marks_at m cs ++ mark m (off_edge c) ∷ []
   marks_push = map_push (λ c. mark m (off_edge c)) cs c
@@ -29,41 +39,41 @@ module _ (m : Mesh) (cs : List ℕ) (c : ℕ) where
   kept_marked : 0 < mark m (off_edge c) → cs ++ c ∷ [] ≡ cs ++ cond (ltb 0 (mark m (off_edge c))) (c ∷ []) []
   kept_marked h = ap (λ l. cs ++ l) (sym (cond-true _ _ _ (lt-ltb 0 (mark m (off_edge c)) h)))
 
-  pub seen_semi_sharp : (a b : Around) (x : ℕ) → x ≡ mark m (off_edge c) → 1 ≤ x → x ≤ 4096 → Seen m cs a →
-      b.marked ≡ a.marked + 1 → b.sum ≡ a.sum + x → b.infinite ≡ a.infinite → Seen m (cs ++ cond (ltb 0 (mark m (off_edge c))) (c ∷ []) []) b
-  seen_semi_sharp a b x e low high s hm hs hi =
-      let n = length_push cs c in
-      let k = s.marked_is in
-      let f = s.sum_few in
-      subst (λ l. Seen m l b) (kept_marked (omega arith)) (record {
-        marked_is = omega arith;
-        infinite_is = hi ∙ s.infinite_is ∙ sym (ap some_infinite marks_push ∙ push_finite (marks_at m cs) (mark m (off_edge c)) (ne_eqb (mark m (off_edge c)) 65535 (λ z. omega arith)));
-        sum_is = λ i. let t = s.sum_is (sym hi ∙ i) in let p = ap sum marks_push ∙ sum_by_push (λ x. x) (marks_at m cs) (mark m (off_edge c)) in omega arith;
-        sum_few = omega arith;
-      })
+  module _ (a b : Around) (s : Seen m cs a) where
+    pub seen_smooth : 0 ≡ mark m (off_edge c) → b.marked ≡ a.marked → b.sum ≡ a.sum → Seen m (cs ++ cond (ltb 0 (mark m (off_edge c))) (c ∷ []) []) b
+    seen_smooth e hm hs =
+        let none : cs ≡ cs ++ cond (ltb 0 (mark m (off_edge c))) (c ∷ []) [] = sym (append-nil cs) ∙ ap (λ w. cs ++ cond (ltb 0 w) (c ∷ []) []) e in
+        subst (λ l. Seen m l b) none (record { marked_is = hm ∙ s.marked_is; sum_is = hs ∙ s.sum_is })
 
-  pub seen_infinite : (a b : Around) → 65535 ≡ mark m (off_edge c) → Seen m cs a →
-      b.marked ≡ a.marked + 1 → b.sum ≡ a.sum → b.infinite ≡ true → Seen m (cs ++ cond (ltb 0 (mark m (off_edge c))) (c ∷ []) []) b
-  seen_infinite a b e s hm hs hi =
-      let n = length_push cs c in
-      let k = s.marked_is in
-      let f = s.sum_few in
-      subst (λ l. Seen m l b) (kept_marked (omega arith)) (record {
-        marked_is = omega arith;
-        infinite_is = hi ∙ sym (ap some_infinite marks_push ∙ push_infinite (marks_at m cs) (mark m (off_edge c)) (eq-eqb (mark m (off_edge c)) 65535 (sym e)));
-        sum_is = λ i. absurd (let z : true ≡ false = sym hi ∙ i in let o : ◌≡◌ {A = ℕ} 0 1 = cc in omega arith);
-        sum_few = omega arith;
-      })
+    pub seen_semi_sharp : (x : ℕ) → x ≡ mark m (off_edge c) → 1 ≤ x → x ≤ 4096 → b.marked ≡ a.marked + 1 → b.sum ≡ option_map (λ n. n + x) a.sum →
+        Seen m (cs ++ cond (ltb 0 (mark m (off_edge c))) (c ∷ []) []) b
+    seen_semi_sharp x e low high hm hs =
+        let n = length_push cs c in
+        let k = s.marked_is in
+        subst (λ l. Seen m l b) (kept_marked (omega arith)) (record {
+          marked_is = omega arith;
+          sum_is = hs ∙ ap (option_map (λ n. n + x)) s.sum_is ∙ sum_push (marks_at m cs) x (omega arith) ∙ ap finite_sum (ap (λ w. marks_at m cs ++ w ∷ []) e ∙ sym marks_push);
+        })
+
+    pub seen_infinite : 65535 ≡ mark m (off_edge c) → b.marked ≡ a.marked + 1 → b.sum ≡ None → Seen m (cs ++ cond (ltb 0 (mark m (off_edge c))) (c ∷ []) []) b
+    seen_infinite e hm hs =
+        let n = length_push cs c in
+        let k = s.marked_is in
+        subst (λ l. Seen m l b) (kept_marked (omega arith)) (record {
+          marked_is = omega arith;
+          sum_is = hs ∙ sym (ap finite_sum marks_push ∙ cond-true _ _ _ (push_infinite (marks_at m cs) (mark m (off_edge c)) (eq-eqb (mark m (off_edge c)) 65535 (sym e))));
+        })
 
 -- ---- the sharpness of what was seen
 module _ (m : Mesh) (v : ℕ) (a : Around) (s : Seen m (marked m v) a) where
-  pub sharp_infinite : a.infinite ≡ true → 256 * a.marked ≡ sharpness m v
+  pub sharp_seen : option_map_or (λ n. min n (256 * a.marked)) a.sum (256 * a.marked) ≡ sharpness m v
   unfolding sharpness
-  sharp_infinite h = ap (λ n. 256 * n) s.marked_is ∙ sym (cond-true _ _ _ (sym s.infinite_is ∙ h))
-
-  pub sharp_finite : a.infinite ≡ false → min a.sum (256 * a.marked) ≡ sharpness m v
-  unfolding sharpness
-  sharp_finite h = (λ i. min (s.sum_is h i) (256 * s.marked_is i)) ∙ sym (cond-false _ _ _ (sym s.infinite_is ∙ h))
+  sharp_seen =
+      let capped : Option ℕ → ℕ = λ o. option_map_or (λ n. min n (256 * a.marked)) o (256 * a.marked) in
+      ap capped s.sum_is ∙ elim (cases_Bool (some_infinite (marks_at m (marked m v)))) [
+        | inl t ↦ ap capped (cond-true _ _ _ t) ∙ ap (λ n. 256 * n) s.marked_is ∙ sym (cond-true _ _ _ t)
+        | inr f ↦ ap capped (cond-false _ _ _ f) ∙ ap (λ n. min (sum (marks_at m (marked m v))) (256 * n)) s.marked_is ∙ sym (cond-false _ _ _ f)
+      ]
 
 -- ---- the walk
 module _ (m : Mesh) (v n : ℕ) where

@@ -1,5 +1,5 @@
 -- The corners that a walk has met, and what is known of the marks there.
-use Rattle.std.specs.Prelude.{◌≡◌, ℕ, ◌*◌, ◌≤◌, false, List, map, length, sum, filter, nat_lt}
+use Rattle.std.specs.Prelude.{◌≡◌, ℕ, cond, List, map, length, Some, None, Option, sum, filter, nat_lt}
 use Rattle.std.specs.List.{range_with_len}
 use Rattle.mesh.specs.Mesh.{Mesh, mark, off_edge, walk}
 use Rattle.carried.specs.Blends.{some_infinite}
@@ -15,9 +15,11 @@ marked_met m v n = filter (λ c. nat_lt 0 (mark m (off_edge c))) (met m v n)
 abbrev pub marks_at : Mesh → List ℕ → List ℕ
 marks_at m cs = map (λ c. mark m (off_edge c)) cs
 
--- a says what the marked corners cs have: how many they are, whether a mark is infinite, and the sum if none is
+-- the sum of some marks; none if one is infinite
+abbrev pub finite_sum : List ℕ → Option ℕ
+finite_sum ws = cond (some_infinite ws) None (Some (sum ws))
+
+-- a says what the marked corners cs have: how many they are, and the sum of the marks there if none is infinite
 pub record Seen (m : Mesh) (cs : List ℕ) (a : Around) : Type 0 where
   pub marked_is : a.marked ≡ length cs
-  pub infinite_is : a.infinite ≡ some_infinite (marks_at m cs)
-  pub sum_is : a.infinite ≡ false → a.sum ≡ sum (marks_at m cs)
-  pub sum_few : a.sum ≤ 4096 * a.marked
+  pub sum_is : a.sum ≡ finite_sum (marks_at m cs)

@@ -1,6 +1,6 @@
 // What the walk at a point meets.
-ghost use Rattle.std.specs.Prelude.{◌≡◌, ℕ, ◌+◌, ◌*◌, ◌<◌, ◌≤◌, List, [], ◌∷◌, ◌++◌, if◌then◌else◌, nat_lt};
-ghost use Rattle.carried.specs.Blends.{marked as marked_at, sharpness as sharpness_at};
+ghost use Rattle.std.specs.Prelude.{◌≡◌, ℕ, ◌+◌, ◌<◌, List, [], ◌∷◌, ◌++◌, if◌then◌else◌, nat_lt};
+ghost use Rattle.carried.specs.Blends.{marked as marked_at};
 ghost use Rattle.mesh.specs.Marks.{word_of};
 ghost use Rattle.mesh.specs.Mesh.{Mesh, mark as mark_word, off_edge, valence as valence_at};
 ghost use Rattle.tables.specs.Lent.{mesh};
@@ -12,11 +12,22 @@ use mesh::number::{Corner, Point};
 use tables::lawful::LawfulTables;
 
 impl Around {
+    // No corner met.
+    fn none() -> Around
+        ensures none { result.valence ≡ 0 }
+        ensures sees { (m : Mesh) → Seen m [] result }
+    {
+        Around {
+            valence: 0,
+            marked: 0,
+            sum: Some(0),
+        }
+    }
+
     // The same with one corner more, whose off-edge has this mark.
     fn more(self, mark: Mark) -> Around
         requires few { self.valence < 64 }
         requires fewer { self.marked < 64 }
-        requires small { self.sum ≤ 4096 * self.marked }
         ensures steps { result.valence ≡ self.valence + 1 }
         ensures sees { (m : Mesh) (cs : List ℕ) (c : ℕ) → word_of mark ≡ mark_word m (off_edge c) → Seen m cs self → Seen m (cs ++ (if nat_lt 0 (mark_word m (off_edge c)) then c ∷ [] else [])) result }
     {
@@ -26,33 +37,20 @@ impl Around {
                 valence,
                 marked: self.marked,
                 sum: self.sum,
-                infinite: self.infinite,
             },
-            Mark::SemiSharp(sharpness) => Around {
-                valence,
-                marked: self.marked + 1,
-                sum: self.sum + u32::from(sharpness.value()),
-                infinite: self.infinite,
-            },
+            Mark::SemiSharp(sharpness) => {
+                let value = u32::from(sharpness.value());
+                Around {
+                    valence,
+                    marked: self.marked + 1,
+                    sum: self.sum.map(|sum| sum + value),
+                }
+            }
             Mark::Infinite => Around {
                 valence,
                 marked: self.marked + 1,
-                sum: self.sum,
-                infinite: true,
+                sum: None,
             },
-        }
-    }
-
-    // The sum of the marks, at most 256 for each; 256 for each if one is infinite.
-    pub(crate) fn sharpness(&self) -> u32
-        requires { self.now.marked ≤ 64 }
-        ensures { (m : Mesh) (v : ℕ) → Seen m (marked_at m v) self.now → result ≡ sharpness_at m v }
-    {
-        let most = 256 * self.marked;
-        if self.infinite {
-            most
-        } else {
-            self.sum.min(most)
         }
     }
 }
@@ -65,12 +63,7 @@ pub(crate) fn around<'a>(level: &LawfulTables<'a>, point: Point) -> Around
 {
     let start = level.tables.starts[point.0 as usize];
     let mut corner = Corner(start);
-    let mut seen = Around {
-        valence: 0,
-        marked: 0,
-        sum: 0,
-        infinite: false,
-    };
+    let mut seen = Around::none();
     loop {
         let (mark, next) = level.marked_step(corner);
         seen = seen.more(mark);

@@ -11,3 +11,4 @@ mod seen;
 pub mod standing;
 mod valued;
 mod values;
+mod vertex;

@@ -1,9 +1,10 @@
-use Rattle.std.proofs.Common.{sym, refl, ap, ◌∙◌, arith}
+use Rattle.std.proofs.Common.{sym, refl, ap, ◌∙◌, subst, arith}
 use Rattle.mesh.specs.Causes.{mesh_of}
 use Rattle.mesh.specs.Mesh.{walk}
 use Rattle.refinement.proofs.Loops.{walk_first, walk_more}
 use Rattle.refinement.proofs.Walks.{walk_below}
 use Rattle.tables.specs.Lent.{mesh}
+use Rattle.carry.specs.Walks.{Seen, marked_met}
 use Rattle.carry.proofs.Walks.{goes_on, is_back, marked_all, met_few, seen_on}
 use Rattle.carry.proofs.around.around.Goals as goal
 
@@ -13,8 +14,13 @@ bounds-level-point c = let n = c.args.level.now.lawful.sound.counted.start_count
 
 pub loop-corner-init : goal.loop-corner-init
 loop-corner-init c = λ v l e.
+    let m = mesh c.args.level.now.tables in
     let two = c.args.level.now.lawful.sound.walks_not_short v l in
-    (omega arith, walk_first (mesh c.args.level.now.tables) v _ e, record { marked_is = refl; infinite_is = refl; sum_is = λ _. refl; sum_few = omega arith })
+    let z = c.none-seen.ensures.none in (
+      omega arith,
+      walk_first m v _ e ∙ ap (walk m v) (sym z),
+      subst (λ n. Seen m (marked_met m v n) c.none-seen.result) (sym z) (c.none-seen.ensures.sees m),
+    )
 
 pub marked_step-mark-requires : goal.marked_step-mark-requires
 unfolding mesh_of
@@ -34,7 +40,7 @@ more-seen-requires c =
     let a = i.0 in
     let k = i.2.marked_is in
     let few = met_few m v c.loop-corner.seen.valence in
-    record { few = omega arith; fewer = omega arith; small = i.2.sum_few }
+    record { few = omega arith; fewer = omega arith }
 
 pub returns-then-corner-start : goal.returns-then-corner-start
 unfolding mesh_of

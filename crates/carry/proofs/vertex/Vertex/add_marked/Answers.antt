@@ -11,38 +11,38 @@ use Rattle.carry.specs.Rows.{made}
 use Rattle.carry.specs.Walks.{marked_met}
 use Rattle.carry.proofs.Rounds.{crease_more, crease_parts, crease_room, crease_total, marked_fewer}
 use Rattle.carry.proofs.Walks.{marked_all, met_marked, met_smooth, on_walk, other_on_walk}
-use Rattle.carry.proofs.valued.Valued.add_marked.Goals as goal
-use Rattle.carry.proofs.valued.Valued.add_marked.Goals.{then-is_marked, else-is_marked}
+use Rattle.carry.proofs.vertex.Vertex.add_marked.Goals as goal
+use Rattle.carry.proofs.vertex.Vertex.add_marked.Goals.{then-is_marked, else-is_marked}
 
-pub bounds-self-point : goal.bounds-self-point
+pub bounds-valued-self : goal.bounds-valued-self
 unfolding mesh_of
-bounds-self-point g c = let n = c.args.self.now.level.lawful.sound.counted.start_count in let l = c.requires.within in omega arith
+bounds-valued-self g c = let n = c.args.self.now.valued.now.level.lawful.sound.counted.start_count in let l = c.args.self.now.within in omega arith
 
 pub loop-met-init : goal.loop-met-init
 loop-met-init g c = λ v l e.
-    (walk_first (mesh c.args.self.now.level.tables) v _ e, λ ps h few. subst (Mixed g.K.ValueKind.blended g.K.ValueKind.holds (made g.K.Rowed.verdict c.args.self.now.rows.rows.now) _) (sym (append-nil ps)) h)
+    (walk_first (mesh c.args.self.now.valued.now.level.tables) v _ e, λ ps h few. subst (Mixed g.K.ValueKind.blended g.K.ValueKind.holds (made g.K.Rowed.verdict c.args.self.now.valued.now.rows.rows.now) _) (sym (append-nil ps)) h)
 
 pub marked_step-mark-requires : goal.marked_step-mark-requires
 unfolding mesh_of
 marked_step-mark-requires g c =
-    let i = (c.loop-met.invariant c.args.point.0 c.requires.within refl).0 in
-    on_walk (mesh c.args.self.now.level.tables) c.args.self.now.level.lawful.sound c.args.point.0 _ _ c.requires.within i
+    let i = (c.loop-met.invariant c.args.self.now.point.0 c.args.self.now.within refl).0 in
+    on_walk (mesh c.args.self.now.valued.now.level.tables) c.args.self.now.valued.now.level.lawful.sound c.args.self.now.point.0 _ _ c.args.self.now.within i
 
 pub point-requires : goal.point-requires
 unfolding mesh_of other_end
 point-requires g c =
-    let i = (c.loop-met.invariant c.args.point.0 c.requires.within refl).0 in
-    let l = other_on_walk (mesh c.args.self.now.level.tables) c.args.self.now.level.lawful.sound c.args.point.0 _ _ c.requires.within i in
+    let i = (c.loop-met.invariant c.args.self.now.point.0 c.args.self.now.within refl).0 in
+    let l = other_on_walk (mesh c.args.self.now.valued.now.level.tables) c.args.self.now.valued.now.level.lawful.sound c.args.self.now.point.0 _ _ c.args.self.now.within i in
     rw c.other_end.ensures l
 
 pub loop-met-preserved : goal.loop-met-preserved
 unfolding other_end
 loop-met-preserved g c =
-    let m = mesh c.args.self.now.level.tables in
+    let m = mesh c.args.self.now.valued.now.level.tables in
     let i = c.loop-met._met in
     let at = c.loop-met.corner.0 in
     let k = c.args.weight in
-    let xs = made g.K.Rowed.verdict c.args.self.now.rows.rows.now in
+    let xs = made g.K.Rowed.verdict c.args.self.now.valued.now.rows.rows.now in
     λ v l e.
     let inv = c.loop-met.invariant v l e in
     let cs = marked_met m v i in (
@@ -51,10 +51,10 @@ loop-met-preserved g c =
         | then-is_marked w ↦
             let grow = met_marked m v i at inv.0 (w.if-is_marked.ensures ∙ ap (ltb 0) c.marked_step-mark.ensures.marks) in
             let test = c.loop-met-test.true in
-            let fewer = marked_fewer m v (i + 1) c.args.valence (omega arith) in
+            let fewer = marked_fewer m v (i + 1) c.args.self.now.seen.valence (omega arith) in
             let one = ap length grow in
             let push = length_push cs at in
-            let room = crease_room m v i c.args.valence k (omega arith) in
+            let room = crease_room m v i c.args.self.now.seen.valence k (omega arith) in
             let before = ps ++ crease_parts m k cs in
             let weight : total before ≡ total ps + length cs * k = total_append ps _ ∙ ap (λ x. total ps + x) (crease_total m k cs) in
             let h1 = w.add_at.ensures before (inv.1 ps h few) (omega arith) in
@@ -73,13 +73,13 @@ loop-met-preserved g c =
 pub returns : goal.returns
 unfolding mesh_of
 returns g c = λ ps h few.
-    let m = mesh c.args.self.now.level.tables in
-    let v = c.args.point.0 in
-    let n = c.args.valence in
-    let same = marked_all m v n c.requires.steps in
+    let m = mesh c.args.self.now.valued.now.level.tables in
+    let v = c.args.self.now.point.0 in
+    let n = c.args.self.now.seen.valence in
+    let same = marked_all m v n c.args.self.now.steps in
     let all : c.loop-met._met ≡ n = omega arith in
     let count = ap length same in
     let few' : total ps + length (marked_met m v n) * c.args.weight ≤ 268435456 = rw same few in
-    let h2 = (c.loop-met.invariant v c.requires.within refl).1 ps h few' in
-    subst (Mixed g.K.ValueKind.blended g.K.ValueKind.holds (made g.K.Rowed.verdict c.args.self.now.rows.rows.now) c.loop-met.mix)
+    let h2 = (c.loop-met.invariant v c.args.self.now.within refl).1 ps h few' in
+    subst (Mixed g.K.ValueKind.blended g.K.ValueKind.holds (made g.K.Rowed.verdict c.args.self.now.valued.now.rows.rows.now) c.loop-met.mix)
     (ap (λ i. ps ++ crease_parts m c.args.weight (marked_met m v i)) all ∙ ap (λ cs. ps ++ crease_parts m c.args.weight cs) same) h2
