@@ -53,6 +53,7 @@ impl<'a, 'r, K: ValueKind> Valued<'a, 'r, K> {
     }
 
     // The blend of the edge point of an off-edge.
+    #[tactic(auto, unfolding(mesh::specs::Mesh::other_end))]
     pub(crate) fn edge(&self, off: OffEdge) -> K
         requires { off.0 < 2 * (mesh self.now.level.tables).quads }
         ensures { result ≡ blend K.blended (made K.Rowed.verdict self.now.rows.rows.now) (edge_parts (mesh self.now.level.tables) off.0) }
