@@ -97,7 +97,7 @@ fn glimpses(bench: &mut Bench<'_>) -> [u32; 8] {
         corners[3].0,
         begin.0,
         end.0,
-        mark.word(),
+        mark.into(),
     ]
 }
 

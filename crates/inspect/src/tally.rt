@@ -21,11 +21,11 @@ fn add(tally: Tally, word: u32) -> Tally
     ensures { Adds word tally result }
 {
     let mut more = tally;
-    match Mark::from_word(word) {
-        Some(Mark::Smooth) => more.smooth += 1,
-        Some(Mark::SemiSharp(_)) => more.semi_sharp += 1,
-        Some(Mark::Infinite) => more.infinite += 1,
-        None => more.no_mark += 1,
+    match Mark::try_from(word) {
+        Ok(Mark::Smooth) => more.smooth += 1,
+        Ok(Mark::SemiSharp(_)) => more.semi_sharp += 1,
+        Ok(Mark::Infinite) => more.infinite += 1,
+        Err(_) => more.no_mark += 1,
     }
     more
 }

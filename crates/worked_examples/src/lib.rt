@@ -43,7 +43,7 @@ mod tests {
     // The word of the mark of a standing off-edge; 1 where there is none.
     fn mark_at(bench: &Bench<'_>, off: u32) -> u32 {
         match bench.off_edge(Level::Standing, OffEdge(off)) {
-            Ok((_, _, mark)) => mark.word(),
+            Ok((_, _, mark)) => mark.into(),
             Err(_) => 1,
         }
     }
