@@ -5,35 +5,16 @@ use std::io;
 use std::io::{Read, Write};
 use step::{LONGEST_INPUT, mesh_refine_step};
 
-// One byte more than is looked at, so that a longer input shows.
-const INPUT: usize = LONGEST_INPUT + 1;
-
 // More than the text of the largest mesh that is answered, which has 35,147 bytes.
 const OUTPUT: usize = 65_536;
 
-// Fills the buffer until it is full or the input ends, and says how many bytes came.
-fn read_up_to(from: &mut impl Read, buffer: &mut [u8]) -> io::Result<usize> {
-    let mut have = 0;
-    for _ in 0..buffer.len() {
-        if have >= buffer.len() {
-            break;
-        }
-        let got = from.read(&mut buffer[have..])?;
-        if got == 0 {
-            break;
-        }
-        have += got;
-    }
-    Ok(have)
-}
-
 fn main(rt: HostRuntime) -> io::Result<()> {
-    let mut input = [0u8; INPUT];
+    let mut input = Vec::new(rt.alloc());
+    // one byte more than is looked at, so that a longer input shows
+    rt.stdin()
+        .take(LONGEST_INPUT as u64 + 1)
+        .read_to_end(&mut input)?;
     let mut output = [0u8; OUTPUT];
-    let have = read_up_to(&mut rt.stdin(), &mut input)?.min(INPUT);
-    let count = mesh_refine_step(&input[0..have], &mut output);
-    if count > output.len() {
-        return Ok(());
-    }
-    rt.stdout().write_all(&output[0..count])
+    let count = mesh_refine_step(&input, &mut output);
+    rt.stdout().write_all(&output[..count])
 }

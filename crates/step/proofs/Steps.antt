@@ -1,5 +1,6 @@
 -- What the step answers, call by call.
 use Rattle.std.proofs.Common.{◌≡◌, ℕ, ◌*◌, ◌/◌, ◌<◌, ◌≤◌, Bool, true, false, not, ltb, List, length, Some, None, Ok, Err, MatchBool, Option, Result, sym, refl, ap, ◌∙◌, subst, inl, inr, arith}
+use Rattle.std.specs.Result.{result_unwrap_or}
 use Rattle.std.proofs.lemmas.Bool.{cond-true, cond-false, lt-ltb, le-ltb, cases_lt}
 use Rattle.mesh.specs.Causes.{judge, mesh_of}
 use Rattle.mesh.specs.Mesh.{Mesh, most_quads}
@@ -120,11 +121,6 @@ carried_load s m e k = ap (λ (v : Verdict). judged_text v m) (sym (load_judged 
 not_declined : (n p : ℕ) → declined n p ≡ fine → ⊥
 not_declined n p e = let z : ◌≡◌ {A = ℕ} 0 1 = cc in omega arith
 
--- how many bytes were written
-abbrev pub count : Result ℕ Fault → ℕ
-count (Ok n) = n
-count (Err f) = 0
-
 -- text that is refused is longer than the buffer
 longer : (m : Mesh) (z : State) (e : List ℕ) (f : Fault) → z.standing ≡ Some m → declined (number_of f) (place_of f) ≡ write_refusal z (length e) → length e < length (mesh_text m)
 longer m z e f k d = elim (cases_lt (length e) (length (mesh_text m))) [
@@ -135,7 +131,7 @@ longer m z e f k d = elim (cases_lt (length e) (length (mesh_text m))) [
       ∙ cond-false (ltb (length e) (length (mesh_text m))) (declined 22 0) fine (le-ltb (length e) (length (mesh_text m)) h)))
 ]
 
-pub written : (m : Mesh) (z : State) (e o : List ℕ) (r : Result ℕ Fault) → z.standing ≡ Some m → Writes z e o r → Answers e (mesh_text m) (count r) o
+pub written : (m : Mesh) (z : State) (e o : List ℕ) (r : Result ℕ Fault) → z.standing ≡ Some m → Writes z e o r → Answers e (mesh_text m) (result_unwrap_or r 0) o
 written m z e o (Ok n) k w =
     let p = w.leaves in
     let same_mesh : p.0 ≡ m = cc in

@@ -1,9 +1,13 @@
 -- One write after another. Assumes nothing.
-use Rattle.std.proofs.Common.{◌≡◌, ℕ, zero, suc, ◌+◌, ◌-◌, ◌/◌, ◌%◌, ◌<◌, ◌≤◌, List, [], ◌∷◌, ◌++◌, length, get_or, take, drop, set, sym, refl, ap, ◌∙◌, subst, append_assoc, arith, length-append, length-drop}
+use Rattle.std.proofs.Common.{◌≡◌, ℕ, zero, suc, ◌+◌, ◌-◌, ◌*◌, ◌/◌, ◌%◌, ◌<◌, ◌≤◌, List, [], ◌∷◌, ◌++◌, length, get_or, take, drop, set, sym, refl, ap, ◌∙◌, subst, append_assoc, arith, length-append, length-drop}
 use Rattle.std.proofs.lemmas.Bool.Decides.{nat_tests}
 use Rattle.std.proofs.lemmas.List.{append-nil, take_more, take-append-drop, set_split, take_at, take-append-le, take-take, drop_at, drop-drop, length-take-le}
+use Rattle.std.specs.List.{sum_by}
+use Rattle.std.proofs.lemmas.List.Recursion.{is_sum_by}
+use Rattle.std.proofs.lemmas.List.Sums.{sum_by-cons}
 use Rattle.lines.specs.Text.{hex_byte, digits, width, word_text, words_text, line_text}
-use Rattle.text.specs.Put.{Put}
+use Rattle.text.specs.Put.{Put, Room, Wrote}
+use Rattle.text.specs.declared.put.Writer.{Writer}
 use Rattle.lines.proofs.Words.{length_digits}
 
 pub put_none : (e : List ℕ) (at : ℕ) → at ≤ length e → Put e at [] at e
@@ -89,58 +93,71 @@ put_before e at b t end o p =
     next : (k : ℕ) → suc k ≡ k + 1
     next k = omega arith
 
--- i of the digits of n are written, and the others are those of `left`
-pub record DigitsAfter (e : List ℕ) (at count n i left : ℕ) (o : List ℕ) : Type 0 where
+-- the digits of n are written from place p on, and the others are those of `left`
+pub record DigitsFrom (e : List ℕ) (at count n p left : ℕ) (o : List ℕ) : Type 0 where
+  pub from : at ≤ p
   pub written : List ℕ
-  pub put : Put e (at + (count - i)) written (at + count) o
-  pub rest : digits count n ≡ digits (count - i) left ++ written
+  pub put : Put e p written (at + count) o
+  pub rest : digits count n ≡ digits (p - at) left ++ written
 
-pub digits_first : (e : List ℕ) (at count n : ℕ) → at + count ≤ length e → DigitsAfter e at count n 0 n e
-digits_first e at count n h = record {
-  written = [];
-  put = subst (λ (k : ℕ). Put e k [] (at + count) e) (same at count) (put_none e (at + count) h);
-  rest = sym (append-nil (digits count n)) ∙ ap (λ (k : ℕ). digits k n ++ []) (whole count);
-}
-  where
-    same : (a c : ℕ) → a + c ≡ a + (c - 0)
-    same a c = omega arith
-
-    whole : (c : ℕ) → c ≡ c - 0
-    whole c = omega arith
-
-pub digits_next : (e : List ℕ) (at count n i left : ℕ) (o : List ℕ) → i < count → DigitsAfter e at count n i left o →
-    DigitsAfter e at count n (i + 1) (left / 16) (set o (at + (count - (i + 1))) (hex_byte (left % 16)))
-unfolding digits
-digits_next e at count n i left o h d =
-    let k : ℕ = count - (i + 1) in
-    let b = hex_byte (left % 16) in
-    let from : at + (count - i) ≡ at + k + 1 = omega arith in
-    let more : count - i ≡ suc k = omega arith in
+pub digits_first : (e : List ℕ) (at count n : ℕ) → at + count ≤ length e → DigitsFrom e at count n (at + count) n e
+digits_first e at count n h =
+    let whole : count ≡ at + count - at = omega arith in
     record {
-      written = b ∷ d.written;
-      put = put_before e (at + k) b d.written (at + count) o (subst (λ (j : ℕ). Put e j d.written (at + count) o) from d.put);
-      rest = d.rest ∙ ap (λ (j : ℕ). digits j left ++ d.written) more ∙ append_assoc (digits k (left / 16)) (b ∷ []) d.written;
+      from = omega arith;
+      written = [];
+      put = put_none e (at + count) h;
+      rest = sym (append-nil (digits count n)) ∙ ap (λ (k : ℕ). digits k n ++ []) whole;
     }
 
-pub digits_last : (e : List ℕ) (at count n i left : ℕ) (o : List ℕ) → i ≡ count → DigitsAfter e at count n i left o → Put e at (digits count n) (at + count) o
+pub digits_next : (e : List ℕ) (at count n p left : ℕ) (o : List ℕ) (q : ℕ) → at ≤ q → q + 1 ≡ p → DigitsFrom e at count n p left o → DigitsFrom e at count n q (left / 16) (set o q (hex_byte (left % 16)))
 unfolding digits
-digits_last e at count n i left o h d =
-    let none : count - i ≡ 0 = omega arith in
-    let from : at + (count - i) ≡ at = omega arith in
+digits_next e at count n p left o q h k d =
+    let b = hex_byte (left % 16) in
+    let more : p - at ≡ suc (q - at) = omega arith in
+    record {
+      from = h;
+      written = b ∷ d.written;
+      put = put_before e q b d.written (at + count) o (subst (λ (j : ℕ). Put e j d.written (at + count) o) (sym k) d.put);
+      rest = d.rest ∙ ap (λ (j : ℕ). digits j left ++ d.written) more ∙ append_assoc (digits (q - at) (left / 16)) (b ∷ []) d.written;
+    }
+
+pub digits_last : (e : List ℕ) (at count n p left : ℕ) (o : List ℕ) → p ≤ at → DigitsFrom e at count n p left o → Put e at (digits count n) (at + count) o
+unfolding digits
+digits_last e at count n p left o h d =
+    let f = d.from in
+    let none : p - at ≡ 0 = omega arith in
+    let from : p ≡ at = omega arith in
     let all : digits count n ≡ d.written = d.rest ∙ ap (λ (j : ℕ). digits j left ++ d.written) none in
     subst (λ (t : List ℕ). Put e at t (at + count) o) (sym all) (subst (λ (j : ℕ). Put e j d.written (at + count) o) from d.put)
 
 pub width_le : (n : ℕ) → width n ≤ 6
 width_le n = grind (arith, nat_tests)
 
+-- how many bytes words have, as a sum
+pub words_bytes : (ws : List ℕ) → sum_by (λ n. 1 + width n) ws ≡ length (words_text ws)
+unfolding words_text
+words_bytes ws = sym (is_sum_by (λ x. length (words_text x)) (λ n. 1 + width n) refl (λ w x. let l = length-append (word_text w) (words_text x) in let n = length_word w in omega arith) ws)
+
+pub words_bytes_le : (ws : List ℕ) → sum_by (λ n. 1 + width n) ws ≤ 7 * length ws
+words_bytes_le [] = omega arith
+words_bytes_le (w ∷ ws) = let n = width_le w in let r = words_bytes_le ws in let s = sum_by-cons (λ n. 1 + width n) w ws in omega arith
+
+-- ---- what a writer wrote
+pub wrote_none : (v : Writer) → Room v 0 → Wrote v [] v
+wrote_none v h = record { same = refl; put = put_none v.out.now v.at (omega arith) }
+
+pub wrote_more : (v w x : Writer) (t u : List ℕ) → Wrote v t w → Wrote w u x → Wrote v (t ++ u) x
+wrote_more v w x t u p q = record { same = q.same ∙ p.same; put = put_more v.out.now v.at t w.at w.out.now u x.at x.out.now p.put q.put }
+
+-- and how much room is left then
+pub wrote_room : (v w : Writer) (t : List ℕ) (n : ℕ) → Wrote v t w → Room v (length t + n) → Room w n
+wrote_room v w t n p h =
+    let q = p.put.place in
+    let l = put_length v.out.now v.at t w.at w.out.now p.put in
+    omega arith
+
 -- the four writes of a line
-pub line_put : (e : List ℕ) (at a b : ℕ) (ws : List ℕ) (end : ℕ) (o1 o2 o3 o4 : List ℕ) → Put e at (a ∷ []) (at + 1) o1 → Put o1 (at + 1) (b ∷ []) (at + 1 + 1) o2 → Put o2 (at + 2) (words_text ws) end o3 → Put o3 end (10 ∷ []) (end + 1) o4 → Put e at (line_text a b ws) (end + 1) o4
+pub line_wrote : (v w x y z : Writer) (a b : ℕ) (ws : List ℕ) → Wrote v (a ∷ []) w → Wrote w (b ∷ []) x → Wrote x (words_text ws) y → Wrote y (10 ∷ []) z → Wrote v (line_text a b ws) z
 unfolding line_text
-line_put e at a b ws end o1 o2 o3 o4 p q r s =
-    let P : ℕ → Type 0 = λ k. Put e at (a ∷ (b ∷ [])) k o2 in
-    put_more e at (a ∷ (b ∷ [])) (at + 2) o2 (words_text ws ++ (10 ∷ [])) (end + 1) o4
-    (subst P (two at) (put_more e at (a ∷ []) (at + 1) o1 (b ∷ []) (at + 1 + 1) o2 p q))
-    (put_more o2 (at + 2) (words_text ws) end o3 (10 ∷ []) (end + 1) o4 r s)
-  where
-    two : (k : ℕ) → k + 1 + 1 ≡ k + 2
-    two k = omega arith
+line_wrote v w x y z a b ws p q r s = wrote_more v w z (a ∷ []) (b ∷ (words_text ws ++ (10 ∷ []))) p (wrote_more w x z (b ∷ []) (words_text ws ++ (10 ∷ [])) q (wrote_more x y z (words_text ws) (10 ∷ []) r s))

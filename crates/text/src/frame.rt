@@ -3,7 +3,8 @@ ghost use Rattle.text.specs.Put.{Written};
 ghost use Rattle.text.specs.Writes.{frame_text};
 ghost use Rattle.mesh.specs.Refusals.{number_of, place_of};
 
-use crate::put::{put_line, words_size};
+use crate::put::{Writer, words_size};
+use lines::kind::Kind;
 use mesh::fault::Fault;
 
 // Writes the frame of a refusal to the front of the buffer, and answers how many bytes it has.
@@ -14,5 +15,7 @@ pub fn write_frame(fault: &Fault, out: &mut [u8]) -> Result<usize, Fault>
     if out.len() < 3 + words_size(&words) {
         return Err(Fault::TooShort);
     }
-    Ok(put_line(b'f', b'f', &words, out, 0))
+    let mut writer = Writer { out, at: 0 };
+    writer.put_line(Kind::Refusal, &words);
+    Ok(writer.at)
 }

@@ -1,67 +1,50 @@
 // Loading a bench from text: the text is read into lent tables, and these are loaded.
-ghost use Rattle.std.specs.Prelude.{◌≡◌, ◌*◌, ◌≤◌, length, take};
+ghost use Rattle.std.specs.Prelude.{◌≡◌, ◌*◌, take};
 ghost use Rattle.mesh.specs.Refusals.{told};
-ghost use Rattle.lines.specs.Reading.{reading, room, Holds};
+ghost use Rattle.lines.specs.Laws.{HasRoom};
+ghost use Rattle.lines.specs.Lent.{Same, lent_room, HoldsIn};
+ghost use Rattle.lines.specs.Reading.{reading};
 ghost use Rattle.chain.specs.Calls.{load, load_text};
 ghost use Rattle.chain.specs.Clauses.{Called};
 ghost use Rattle.bench.specs.Model.{state};
-ghost use Rattle.text.specs.declared.load.TextFault.TheVariants.{Unloaded};
 ghost use Rattle.text.specs.Loads.{fault_in, told_text, Loaded, Whose};
 
 use bench::bench::Bench;
-use lines::{Counts, read};
+use lines::{Counts, TablesMut, read};
 use mesh::fault::Fault;
 use tables::lent::Tables;
 
 // Why a text was not loaded: it was not read, or the load of what was read was refused.
-#[derive(Clone, Copy)]
+#[derive(Clone, Copy, PartialEq, Eq, Debug)]
 pub enum TextFault {
     Unread(Fault),
     Unloaded(Fault),
 }
 
-impl TextFault {
-    // The refusal itself, which comes through whole.
-    pub fn fault(&self) -> Fault
-        ensures { result ≡ fault_in self.now }
-    {
-        match self {
-            TextFault::Unread(fault) => *fault,
-            TextFault::Unloaded(fault) => *fault,
+// The refusal itself, which comes through whole.
+impl From<TextFault> for Fault {
+    ghost from_gives = { λ t f. f ≡ fault_in t };
+
+    fn from(value: TextFault) -> Self {
+        match value {
+            TextFault::Unread(fault) => fault,
+            TextFault::Unloaded(fault) => fault,
         }
     }
 }
 
-impl From<Fault> for TextFault {
-    ghost from_gives = { λ f t. t ≡ Unloaded f };
-
-    fn from(value: Fault) -> Self {
-        TextFault::Unloaded(value)
-    }
-}
-
 // Loads the mesh whose words lie in the front of these tables.
-fn load_front<'t>(
-    bench: &mut Bench<'_>,
-    counts: Counts,
-    corners: &'t [u32],
-    friends: &'t [u32],
-    marks: &'t [u32],
-    starts: &'t [u32],
-) -> Result<(), Fault>
-    requires corner_room { 4 * counts.quads ≤ length corners.now }
-    requires friend_room { 2 * counts.quads ≤ length friends.now }
-    requires mark_room { 2 * counts.quads ≤ length marks.now }
-    requires start_room { counts.points ≤ length starts.now }
-    ensures { Called (state bench.old) (load (take (4 * counts.quads) corners.now) (take (2 * counts.quads) friends.now) (take (2 * counts.quads) marks.now) (take counts.points starts.now)) (state bench.new) (told result) }
+fn load_front(bench: &mut Bench<'_>, counts: Counts, lent: &TablesMut<'_>) -> Result<(), Fault>
+    requires { HasRoom counts.quads counts.points (lent_room lent.now) }
+    ensures { Called (state bench.old) (load (take (4 * counts.quads) lent.now.corners.now) (take (2 * counts.quads) lent.now.friends.now) (take (2 * counts.quads) lent.now.marks.now) (take counts.points lent.now.starts.now)) (state bench.new) (told result) }
 {
     let quads = counts.quads as usize;
     let points = counts.points as usize;
     let tables = Tables {
-        corners: &corners[0..4 * quads],
-        friends: &friends[0..2 * quads],
-        marks: &marks[0..2 * quads],
-        starts: &starts[0..points],
+        corners: &lent.corners[..4 * quads],
+        friends: &lent.friends[..2 * quads],
+        marks: &lent.marks[..2 * quads],
+        starts: &lent.starts[..points],
     };
     bench.load(&tables)
 }
@@ -70,20 +53,14 @@ fn load_front<'t>(
 pub fn load_text(
     bench: &mut Bench<'_>,
     text: &[u8],
-    corners: &mut [u32],
-    friends: &mut [u32],
-    marks: &mut [u32],
-    starts: &mut [u32],
+    lent: &mut TablesMut<'_>,
 ) -> Result<(), TextFault>
-    ensures call { Called (state bench.old) (load_text text.now (room corners.old friends.old marks.old starts.old)) (state bench.new) (told_text result) }
-    ensures tables { Holds (reading text.now (room corners.old friends.old marks.old starts.old)) corners.old friends.old marks.old starts.old corners.new friends.new marks.new starts.new }
+    ensures same { Same lent.old lent.new }
+    ensures call { Called (state bench.old) (load_text text.now (lent_room lent.old)) (state bench.new) (told_text result) }
+    ensures tables { HoldsIn (reading text.now (lent_room lent.old)) lent.old lent.new }
     ensures loaded { Loaded text.now (state bench.new) result }
-    ensures whose { Whose (reading text.now (room corners.old friends.old marks.old starts.old)) result }
+    ensures whose { Whose (reading text.now (lent_room lent.old)) result }
 {
-    let counts = match read(text, corners, friends, marks, starts) {
-        Ok(counts) => counts,
-        Err(fault) => return Err(TextFault::Unread(fault)),
-    };
-    load_front(bench, counts, corners, friends, marks, starts)?;
-    Ok(())
+    let counts = read(text, lent).map_err(TextFault::Unread)?;
+    load_front(bench, counts, lent).map_err(TextFault::Unloaded)
 }

@@ -1,18 +1,20 @@
-// Bytes, words and runs of words, each written into a lent buffer from a place on.
+// Bytes, words and lines, each written into a lent buffer.
 ghost use Rattle.std.specs.Prelude.{◌≡◌, ◌+◌, ◌*◌, ◌<◌, ◌≤◌, [], ◌∷◌, length};
+ghost use Rattle.lines.specs.Kinds.{first_digit, second_digit};
 ghost use Rattle.lines.specs.Text.{hex_byte, digits, width, word_text, words_text, line_text};
-ghost use Rattle.text.specs.Put.{Put};
+ghost use Rattle.text.specs.Put.{Room, Wrote};
+
+use lines::kind::Kind;
+
+// The bytes of the digits. A table, since a test costs a branch that is often foretold wrongly.
+const HEX: [u8; 16] = *b"0123456789abcdef";
 
 // The byte of a digit below 16.
 fn hex(d: u32) -> u8
     requires { d < 16 }
     ensures { result ≡ hex_byte d }
 {
-    if d < 10 {
-        b'0' + d as u8
-    } else {
-        b'a' + (d as u8 - 10)
-    }
+    HEX[d as usize]
 }
 
 // How many digits n needs, six at most.
@@ -34,71 +36,73 @@ pub(crate) fn needed(n: u32) -> usize
     }
 }
 
-// Writes one byte.
-pub(crate) fn put_byte(b: u8, out: &mut [u8], at: usize)
-    requires { at < length out.old }
-    ensures { Put out.old at (b ∷ []) (at + 1) out.new }
-{
-    out[at] = b;
-}
-
-// Writes n as `count` digits from `at` on.
-fn put_digits(n: u32, count: usize, out: &mut [u8], at: usize)
-    requires { at + count ≤ length out.old }
-    ensures { Put out.old at (digits count n) (at + count) out.new }
-{
-    // the last digit first, since that is the one at hand
-    let mut left = n;
-    for i in 0..count {
-        out[at + (count - (i + 1))] = hex(left % 16);
-        left /= 16;
-    }
-}
-
-// Writes a space and a word from `at` on; the place after it.
-fn put_word(n: u32, out: &mut [u8], at: usize) -> usize
-    requires { at + 1 + width n ≤ length out.old }
-    ensures { Put out.old at (32 ∷ word_text n) result out.new }
-{
-    put_byte(b' ', out, at);
-    let count = needed(n);
-    put_digits(n, count, out, at + 1);
-    at + 1 + count
-}
-
-// Writes words with a space before each from `at` on; the place after them.
-pub(crate) fn put_words(words: &[u32], out: &mut [u8], at: usize) -> usize
-    requires { at + length (words_text words.now) ≤ length out.old }
-    ensures { Put out.old at (words_text words.now) result out.new }
-{
-    let mut p = at;
-    for w in words {
-        p = put_word(*w, out, p);
-    }
-    p
-}
-
-// Writes a line of the kind a, b from `at` on; the place after it.
-pub(crate) fn put_line(a: u8, b: u8, words: &[u32], out: &mut [u8], at: usize) -> usize
-    requires { at + length (line_text a b words.now) ≤ length out.old }
-    ensures { Put out.old at (line_text a b words.now) result out.new }
-{
-    put_byte(a, out, at);
-    put_byte(b, out, at + 1);
-    let end = put_words(words, out, at + 2);
-    put_byte(b'\n', out, end);
-    end + 1
-}
-
 // How many bytes words have, with a space before each.
 pub(crate) fn words_size(words: &[u32]) -> usize
     requires { length words.now ≤ 4294967296 }
     ensures is { result ≡ length (words_text words.now) }
     ensures bound { result ≤ 7 * length words.now }
 {
-    let mut size = 0;
-    for w in words {
-        size += 1 + needed(*w);
+    words.iter().map(|w| 1 + needed(*w)).sum()
+}
+
+// A lent buffer, and the place from which on the next bytes are written.
+#[derive(Drop)]
+pub(crate) struct Writer<'a> {
+    pub(crate) out: &'a mut [u8],
+    pub(crate) at: usize,
+}
+
+impl Writer<'_> {
+    fn put_byte(&mut self, b: u8)
+        requires { Room self.old 1 }
+        ensures { Wrote self.old (b ∷ []) self.new }
+    {
+        self.out[self.at] = b;
+        self.at += 1;
     }
-    size
+
+    // Writes n as `count` digits.
+    fn put_digits(&mut self, n: u32, count: usize)
+        requires { Room self.old count }
+        ensures { Wrote self.old (digits count n) self.new }
+    {
+        let end = self.at + count;
+        // the last digit first, since that is the one at hand
+        let mut left = n;
+        for place in (self.at..end).rev() {
+            self.out[place] = hex(left % 16);
+            left /= 16;
+        }
+        self.at = end;
+    }
+
+    // Writes a space and a word.
+    fn put_word(&mut self, n: u32)
+        requires { Room self.old (1 + width n) }
+        ensures { Wrote self.old (32 ∷ word_text n) self.new }
+    {
+        self.put_byte(b' ');
+        self.put_digits(n, needed(n));
+    }
+
+    // Writes words with a space before each.
+    fn put_words(&mut self, words: &[u32])
+        requires { Room self.old (length (words_text words.now)) }
+        ensures { Wrote self.old (words_text words.now) self.new }
+    {
+        for w in words {
+            self.put_word(*w);
+        }
+    }
+
+    pub(crate) fn put_line(&mut self, kind: Kind, words: &[u32])
+        requires { Room self.old (length (line_text (first_digit kind) (second_digit kind) words.now)) }
+        ensures { Wrote self.old (line_text (first_digit kind) (second_digit kind) words.now) self.new }
+    {
+        let [first, second] = kind.digits();
+        self.put_byte(first);
+        self.put_byte(second);
+        self.put_words(words);
+        self.put_byte(b'\n');
+    }
 }

@@ -4,10 +4,10 @@ use Rattle.mesh.specs.Causes.{mesh_of}
 use Rattle.lines.specs.Text.{line_text, quad_rows, start_rows, mesh_text}
 use Rattle.tables.specs.Lent.{mesh}
 use Rattle.tables.specs.declared.lent.Tables.{Tables}
-use Rattle.text.specs.Put.{Put}
+use Rattle.text.specs.Put.{Wrote}
 use Rattle.text.proofs.Sizes.{sizes}
-use Rattle.text.proofs.Writes.{put_more}
-use Rattle.text.proofs.level.put_text.Goals as goal
+use Rattle.text.proofs.Writes.{wrote_more, wrote_room}
+use Rattle.text.proofs.put.Writer.put_text.Goals as goal
 
 -- the text, part by part
 heading : Tables → List ℕ
@@ -34,22 +34,24 @@ counts : (t : Tables) (q : ℕ) → q ≡ (mesh t).quads → line_text 48 48 (q 
 unfolding heading
 counts t q e = ap (λ (x : ℕ). line_text 48 48 (x ∷ (length t.starts.now ∷ []))) e
 
-pub put_line-p-requires : goal.put_line-p-requires
-put_line-p-requires c =
+pub put_line-requires : goal.put_line-requires
+put_line-requires c =
     let t = c.args.level.now in
     let h = ap length (counts t c.quads.result c.quads.ensures) in
     let l = parts_length t in
     omega (arith, c.requires.room)
 
-pub put_quads-q-requires : goal.put_quads-q-requires
+-- the room after the counts, and after the quads
+pub put_quads-requires : goal.put_quads-requires
 unfolding quads_text
-put_quads-q-requires c =
+put_quads-requires c =
     let t = c.args.level.now in
     let s = sizes t c.requires.lawful in
     let h = ap length (counts t c.quads.result c.quads.ensures) in
     let l = parts_length t in
-    let p = c.put_line-p.ensures.place in
-    record { corner_count = s.corners_in_fours; friend_count = s.friends_by_quads; mark_count = s.marks_by_quads; room = omega (arith, c.requires.room) }
+    let n = length (quads_text t) + length (starts_text t) in
+    let r = wrote_room _ _ _ n c.put_line.ensures (omega (arith, c.requires.room)) in
+    record { corner_count = s.corners_in_fours; friend_count = s.friends_by_quads; mark_count = s.marks_by_quads; room = omega arith }
 
 pub put_starts-requires : goal.put_starts-requires
 unfolding quads_text starts_text
@@ -57,18 +59,19 @@ put_starts-requires c =
     let t = c.args.level.now in
     let h = ap length (counts t c.quads.result c.quads.ensures) in
     let l = parts_length t in
-    let p = c.put_line-p.ensures.place in
-    let q = c.put_quads-q.ensures.place in
-    omega (arith, c.requires.room)
+    let n = length (quads_text t) + length (starts_text t) in
+    wrote_room _ _ _ _ c.put_quads.ensures (wrote_room _ _ _ n c.put_line.ensures (omega (arith, c.requires.room)))
 
 pub returns : goal.returns
 unfolding quads_text starts_text
 returns c =
     let t = c.args.level.now in
-    let e = c.args.out.now in
-    let P : List ℕ → Type 0 = λ x. Put e 0 x c.put_line-p.result c.put_line-p.new.out in
-    let Q : List ℕ → Type 0 = λ x. Put e 0 x c.put_starts.result c.put_starts.new.out in
+    let v = c.args.self.now in
+    let w = c.put_line.new.self in
+    let x = c.put_quads.new.self in
+    let y = c.put_starts.new.self in
+    let P : List ℕ → Type 0 = λ z. Wrote v z w in
+    let Q : List ℕ → Type 0 = λ z. Wrote v z y in
     subst Q (sym (in_parts t))
-    (put_more e 0 (heading t) c.put_line-p.result c.put_line-p.new.out (quads_text t ++ starts_text t) c.put_starts.result c.put_starts.new.out
-    (subst P (counts t c.quads.result c.quads.ensures) c.put_line-p.ensures)
-    (put_more c.put_line-p.new.out c.put_line-p.result (quads_text t) c.put_quads-q.result c.put_quads-q.new.out (starts_text t) c.put_starts.result c.put_starts.new.out c.put_quads-q.ensures c.put_starts.ensures))
+    (wrote_more v w y (heading t) (quads_text t ++ starts_text t) (subst P (counts t c.quads.result c.quads.ensures) c.put_line.ensures)
+    (wrote_more w x y (quads_text t) (starts_text t) c.put_quads.ensures c.put_starts.ensures))
