@@ -8,7 +8,7 @@ use Rattle.std.proofs.lemmas.Bool.{cases_Bool, cases_eq, cond-false, cond-true, 
 use Rattle.mesh.specs.Mesh.{Mesh, Sound, mark, off_edge, start, walk, valence, longest}
 use Rattle.refinement.proofs.Walks.{walk_back, walk_below, walk_not_back}
 use Rattle.carried.specs.Blends.{around, marked, sharpness, some_infinite}
-
+use Rattle.carried.specs.Blends.{diagonal, other_end}
 use Rattle.carry.specs.Walks.{Seen, finite_sum, marked_met, marks_at, met}
 use Rattle.carry.specs.declared.seen.Around.{Around}
 
