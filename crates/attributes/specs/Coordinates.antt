@@ -89,7 +89,7 @@ same_coordinates p q ex ey ez = λ i.
 -- ---- a running mix
 -- m is the sum of the parts ps
 pub record SumOf (m : CoordinatesMix) (ps : List (Coordinates × ℕ)) : Type 0 where
-  pub weight_is : m.weight ≡ total ps
+  pub weight_is : m.weight.taken ≡ total ps
   pub x_is : m.x ≡ weighted (λ p. p.x) ps
   pub y_is : m.y ≡ weighted (λ p. p.y) ps
   pub z_is : m.z ≡ weighted (λ p. p.z) ps

@@ -28,4 +28,4 @@ union ps = of_bits (all_bits ps)
 -- m is the union of the parts ps, with their weight
 pub record UnionOf (m : InfluenceMix) (ps : List (Influence × ℕ)) : Type 0 where
   pub bits_are : m.bits ≡ all_bits ps
-  pub weight_is : m.weight ≡ total ps
+  pub weight_is : m.weight.taken ≡ total ps

@@ -2,10 +2,11 @@
 // The types stand apart from the functions on them: a file of specs/ that names a type with a ghost field
 // cannot be imported where the type is declared.
 ghost use Rattle.std.specs.Prelude.{◌*◌, ◌≤◌, unsigned_abs};
-ghost use Rattle.kinds.specs.Parts.{most_weight};
 ghost use Rattle.attributes.specs.Limit.{Limited, farthest};
 
 pub mod blend;
+
+use kinds::weight::Weight;
 
 // None can exist that is past 16,777,216 either way.
 #[derive(Clone, Copy, PartialEq, Eq, Debug)]
@@ -24,9 +25,8 @@ pub struct CoordinatesMix {
     x: i64,
     y: i64,
     z: i64,
-    weight: u32,
-    ghost few: { weight ≤ most_weight },
-    ghost xok: { unsigned_abs x ≤ farthest * weight },
-    ghost yok: { unsigned_abs y ≤ farthest * weight },
-    ghost zok: { unsigned_abs z ≤ farthest * weight },
+    weight: Weight,
+    ghost xok: { unsigned_abs x ≤ farthest * weight.taken },
+    ghost yok: { unsigned_abs y ≤ farthest * weight.taken },
+    ghost zok: { unsigned_abs z ≤ farthest * weight.taken },
 }

@@ -1,8 +1,7 @@
 // Which bones of a rig move a point: a set of up to 64 members, by its bits.
-ghost use Rattle.std.specs.Prelude.{◌≤◌};
-ghost use Rattle.kinds.specs.Parts.{most_weight};
-
 pub mod blend;
+
+use kinds::weight::Weight;
 
 #[derive(Clone, Copy, PartialEq, Eq, Debug)]
 pub struct Influence {
@@ -13,6 +12,5 @@ pub struct Influence {
 #[derive(Drop)]
 pub struct InfluenceMix {
     bits: u64,
-    weight: u32,
-    ghost few: { weight ≤ most_weight },
+    weight: Weight,
 }

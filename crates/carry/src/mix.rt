@@ -20,10 +20,7 @@ fn capped(mark: Mark) -> u32
 {
     match mark {
         Mark::Smooth => 0,
-        Mark::SemiSharp(sharpness) => {
-            let value = sharpness.value();
-            if value < 256 { u32::from(value) } else { 256 }
-        }
+        Mark::SemiSharp(sharpness) => u32::from(sharpness.value()).min(256),
         Mark::Infinite => 256,
     }
 }

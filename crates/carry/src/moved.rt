@@ -21,11 +21,7 @@ use tables::corner::{diagonal, other_end};
 fn is_marked(mark: Mark) -> bool
     ensures { result ≡ nat_lt 0 (word_of mark) }
 {
-    match mark {
-        Mark::Smooth => false,
-        Mark::SemiSharp(_) => true,
-        Mark::Infinite => true,
-    }
+    mark != Mark::Smooth
 }
 
 impl<'v, 'a, 'r, K: ValueKind> Vertex<'v, 'a, 'r, K> {

@@ -5,3 +5,4 @@
 pub mod corner;
 pub mod row;
 pub mod value;
+pub mod weight;

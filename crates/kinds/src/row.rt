@@ -27,8 +27,5 @@ pub trait Rowed: Copy {
 pub fn make_value<K: Rowed>(from: &K::Row) -> Result<K, Fault>
     ensures { result ≡ with_fault (K.verdict from.now) }
 {
-    match K::make(from) {
-        Ok(value) => Ok(value),
-        Err(component) => Err(Fault::NoValue(component)),
-    }
+    K::make(from).map_err(Fault::NoValue)
 }

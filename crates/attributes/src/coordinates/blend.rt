@@ -10,7 +10,8 @@ ghost use Rattle.kinds.proofs.Parts.{each_weaker};
 use super::{Coordinates, CoordinatesMix};
 use crate::rounding::rounded;
 use kinds::row::{Rowed, make_value};
-use kinds::value::{MOST_WEIGHT, ValueKind};
+use kinds::value::ValueKind;
+use kinds::weight::Weight;
 use mesh::fault::Fault;
 
 const LIMIT: i32 = 16_777_216;
@@ -30,7 +31,7 @@ fn more(sum: i64, at: i32, times: u32) -> i64
 fn is_limited(at: i32) -> bool
     ensures { result ≡ nat_le (unsigned_abs at) farthest }
 {
-    -LIMIT <= at && at <= LIMIT
+    (-LIMIT..=LIMIT).contains(&at)
 }
 
 impl Coordinates {
@@ -81,7 +82,7 @@ impl ValueKind for Coordinates {
 
     ghost holds = { SumOf };
 
-    ghost weighed = { λ m. m.weight };
+    ghost weighed = { λ m. m.weight.taken };
 
     ghost keeps = { λ b ps some few each. (
       mean_between (λ p. p.x) b.along_x ps some (each_weaker _ _ (λ v h. h.0) ps each),
@@ -96,25 +97,24 @@ impl ValueKind for Coordinates {
             x: 0,
             y: 0,
             z: 0,
-            weight: 0,
+            weight: Weight { taken: 0 },
         }
     }
 
     fn add(mix: &mut CoordinatesMix, value: &Coordinates, weight: u32) {
-        if weight > MOST_WEIGHT - mix.weight {
-            return;
+        if let Some(taken) = mix.weight.checked_add(weight) {
+            mix.x = more(mix.x, value.x, weight);
+            mix.y = more(mix.y, value.y, weight);
+            mix.z = more(mix.z, value.z, weight);
+            mix.weight = taken;
         }
-        mix.x = more(mix.x, value.x, weight);
-        mix.y = more(mix.y, value.y, weight);
-        mix.z = more(mix.z, value.z, weight);
-        mix.weight += weight;
     }
 
     fn finish(mix: CoordinatesMix) -> Coordinates {
         Coordinates {
-            x: rounded(mix.x, mix.weight),
-            y: rounded(mix.y, mix.weight),
-            z: rounded(mix.z, mix.weight),
+            x: rounded(mix.x, mix.weight.taken),
+            y: rounded(mix.y, mix.weight.taken),
+            z: rounded(mix.z, mix.weight.taken),
         }
     }
 }

@@ -6,7 +6,8 @@ ghost use Rattle.attributes.specs.Unions.{union_inside};
 
 use super::{Influence, InfluenceMix};
 use kinds::row::Rowed;
-use kinds::value::{MOST_WEIGHT, ValueKind};
+use kinds::value::ValueKind;
+use kinds::weight::Weight;
 
 impl Rowed for Influence {
     type Row = u64;
@@ -37,22 +38,24 @@ impl ValueKind for Influence {
 
     ghost holds = { UnionOf };
 
-    ghost weighed = { λ m. m.weight };
+    ghost weighed = { λ m. m.weight.taken };
 
     ghost keeps = { λ s ps some few each. union_inside s ps each };
 
     ghost weighs = { λ m ps s. s.weight_is };
 
     fn start() -> InfluenceMix {
-        InfluenceMix { bits: 0, weight: 0 }
+        InfluenceMix {
+            bits: 0,
+            weight: Weight { taken: 0 },
+        }
     }
 
     fn add(mix: &mut InfluenceMix, value: &Influence, weight: u32) {
-        if weight > MOST_WEIGHT - mix.weight {
-            return;
+        if let Some(taken) = mix.weight.checked_add(weight) {
+            mix.bits |= value.bits;
+            mix.weight = taken;
         }
-        mix.bits |= value.bits;
-        mix.weight += weight;
     }
 
     fn finish(mix: InfluenceMix) -> Influence {
