@@ -27,7 +27,7 @@ copy_in-requires-3 c =
     let f = c.requires.shape.0.friend_count in
     let m = c.requires.shape.0.mark_count in
     let l1 = length_after_laid ws w1 0 t.corners.now (omega arith) c.copy_in.ensures in
-    let l2 = length_after_laid w1 c.copy_in-2.new.self.cells.now (4 * c.args.quads) t.friends.now (omega arith) c.copy_in-2.ensures in
+    let l2 = length_after_laid w1 c.copy_in-2.new.self.cells.now (4 * c.args.size.quads) t.friends.now (omega arith) c.copy_in-2.ensures in
     omega arith
 
 pub copy_in-requires-4 : goal.copy_in-requires-4
@@ -41,6 +41,6 @@ copy_in-requires-4 c =
     let f = c.requires.shape.0.friend_count in
     let m = c.requires.shape.0.mark_count in
     let l1 = length_after_laid ws w1 0 t.corners.now (omega arith) c.copy_in.ensures in
-    let l2 = length_after_laid w1 w2 (4 * c.args.quads) t.friends.now (omega arith) c.copy_in-2.ensures in
-    let l3 = length_after_laid w2 c.copy_in-3.new.self.cells.now (6 * c.args.quads) t.marks.now (omega arith) c.copy_in-3.ensures in
+    let l2 = length_after_laid w1 w2 (4 * c.args.size.quads) t.friends.now (omega arith) c.copy_in-2.ensures in
+    let l3 = length_after_laid w2 c.copy_in-3.new.self.cells.now (6 * c.args.size.quads) t.marks.now (omega arith) c.copy_in-3.ensures in
     omega arith
