@@ -18,7 +18,7 @@ use Rattle.layout.proofs.Laid.{begins_write, finishes_write, loads_write}
 use Rattle.layout.proofs.Writes.{tasks_write}
 use Rattle.chain.specs.Calls.{State}
 use Rattle.bench.specs.State.{bench_at, Few, Room, Stands, Works, Count, AtWork}
-use Rattle.bench.specs.Writes.{first_left}
+use Rattle.bench.proofs.Tasks.{first_left}
 use Rattle.bench.specs.declared.bench.Bench.{Bench}
 use Rattle.bench.specs.declared.stage.Size.{Size}
 use Rattle.bench.specs.declared.stage.Stage.{Stage}

@@ -14,7 +14,7 @@ use Rattle.layout.proofs.Laid.{begins_write, finishes_write}
 use Rattle.layout.proofs.Writes.{tasks_write}
 use Rattle.bench.specs.State.{bench_at, AtWork}
 use Rattle.bench.specs.Questions.{unseen}
-use Rattle.bench.specs.Writes.{first_left}
+use Rattle.bench.proofs.Tasks.{first_left}
 use Rattle.bench.specs.declared.level.Level.TheVariants.{InWork}
 use Rattle.bench.specs.declared.stage.Size.{Size}
 use Rattle.bench.specs.declared.stage.Stage.{Stage}

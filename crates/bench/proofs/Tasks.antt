@@ -7,15 +7,15 @@ use Rattle.std.proofs.lemmas.List.Edits.{sets, sets-eq}
 use Rattle.std.proofs.lemmas.List.Quantifiers.{position-Some}
 use Rattle.std.proofs.lemmas.List.Sums.{position_or_len_is}
 use Rattle.mesh.specs.Causes.{mesh_of}
+use Rattle.mesh.specs.Count.{least}
 use Rattle.mesh.specs.Mesh.{Mesh, friend, mark, start as point_start}
 use Rattle.refinement.specs.Tasks.{quad_task, point_task, put, from, new_corners, old_slot, face_slot, edge_slot, fallen, corner_writes}
-use Rattle.refinement.proofs.Puts.{length_put}
 use Rattle.refinement.proofs.Totals.{least_is, least_fails, least_passes}
 use Rattle.tables.specs.Lent.{mesh}
 use Rattle.tables.specs.declared.lent.Tables.{Tables}
 use Rattle.layout.specs.Layout.{block, standing_in, laid, shifted, after_task}
 use Rattle.layout.proofs.Blocks.{length_block}
-use Rattle.bench.specs.Writes.{first_left, friends_by, marks_by, starts_by}
+use Rattle.bench.specs.Writes.{friends_by, marks_by, starts_by}
 
 shifted_from : (a b k : ℕ) (xs : List ℕ) → shifted a (from b k xs) ≡ from (a + b) k xs
 shifted_from a b k [] = refl
@@ -64,9 +64,6 @@ module _ (F V q g0 g1 m0 m1 a b : ℕ) (ws row w1 w2 w3 w4 w5 : List ℕ) where
       let k = side_by_side row ws (a + 16 * q) (omega arith) in
       cc
 
-pub length_after : (ps : List (ℕ × ℕ)) (ws vs : List ℕ) → vs ≡ put ps ws → length vs ≡ length ws
-length_after ps ws vs e = ap length e ∙ length_put ps ws
-
 pub point_writes : (F V v slot start a b : ℕ) (ws : List ℕ) → a ≡ 8 * F + V → b ≡ 43 * F + 2 * V → slot ≡ old_slot (standing_in ws F V) v → start ≡ point_start (standing_in ws F V) v →
     set (set ws (a + 8 * (4 * F) + slot) (4 * start)) (b + (F + v)) 1 ≡ after_task (standing_in ws F V) (point_task v) ws
 unfolding put
@@ -96,7 +93,10 @@ slot_fits quads v r is =
     let k = old_slot_there m v in
     omega arith
 
--- the lowest task that has yet to run
+-- the lowest task that has yet to run, and the count of tasks where all have
+abbrev pub first_left : List ℕ → ℕ → ℕ → ℕ
+first_left ws F V = least (λ i. eqb (get_or (block ws (43 * F + 2 * V) (F + V)) i 0) 0) (F + V)
+
 module _ (F V : ℕ) (ws : List ℕ) (room : 44 * F + 3 * V ≤ length ws) where
   pub one_left : (k : ℕ) → position (λ w. eqb w 0) (block ws (43 * F + 2 * V) (F + V)) ≡ Some k → (k ≡ first_left ws F V) × (k < F + V)
   one_left k e =

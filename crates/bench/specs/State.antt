@@ -1,6 +1,7 @@
 -- What a bench holds, cut out of its words, and what every bench keeps.
 use Rattle.std.specs.Prelude.{◌≡◌, ℕ, ◌+◌, ◌*◌, ◌≤◌, List, length, count_by, nat_eq}
 use Rattle.mesh.specs.Mesh.{Lawful}
+use Rattle.tables.specs.declared.lent.Tables.{Tables}
 use Rattle.chain.specs.Calls.{State, left, words_to_load, words_to_begin}
 use Rattle.layout.specs.Layout.{block, standing_in, work_in, empty_bench, standing_bench, working_bench, InRange, Written}
 use Rattle.bench.specs.declared.stage.Size.{Size}
@@ -51,6 +52,13 @@ left_at (Working s n) = n
 
 abbrev pub Count : Stage → ℕ → List ℕ → Type 0
 Count s mark ws = left_at s ≡ left (bench_at s mark ws)
+
+-- the tables t have the lengths of a level of size s
+pub record Lengths (t : Tables) (s : Size) : Type 0 where
+  pub corners : length t.corners.now ≡ 4 * s.quads
+  pub friends : length t.friends.now ≡ 2 * s.quads
+  pub marks : length t.marks.now ≡ 2 * s.quads
+  pub starts : length t.starts.now ≡ s.points
 
 -- what a task asks of the words below it: that there are enough of them, and that those of the standing level are in range
 pub record Ready (s : Size) (ws : List ℕ) : Type 0 where

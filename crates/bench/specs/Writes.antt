@@ -1,8 +1,6 @@
 -- What a quad task writes to each table of the level in work, from the words that it reads.
-use Rattle.std.specs.Prelude.{ℕ, ◌+◌, ◌*◌, List, [], ◌∷◌, nat_eq, slice_index}
-use Rattle.mesh.specs.Count.{least}
+use Rattle.std.specs.Prelude.{ℕ, ◌+◌, ◌*◌, List, [], ◌∷◌}
 use Rattle.refinement.specs.Tasks.{face_slot, edge_slot}
-use Rattle.layout.specs.Layout.{block}
 
 -- the friends g0 and g1 of its off-edges
 abbrev pub friends_by : ℕ → ℕ → ℕ → List (ℕ × ℕ)
@@ -18,7 +16,3 @@ marks_by q g0 g1 m0 m1 =
 
 abbrev pub starts_by : ℕ → ℕ → ℕ → List (ℕ × ℕ)
 starts_by q g0 g1 = (face_slot q, 16 * q + 2) ∷ (edge_slot g0, 8 * g0 + 1) ∷ (edge_slot g1, 8 * g1 + 1) ∷ []
-
--- the lowest task that has yet to run above a level of F quads and V points, and the count of tasks where all have run
-abbrev pub first_left : List ℕ → ℕ → ℕ → ℕ
-first_left ws F V = least (λ i. nat_eq (slice_index (block ws (43 * F + 2 * V) (F + V)) i) 0) (F + V)

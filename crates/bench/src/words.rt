@@ -1,10 +1,10 @@
 ghost use Rattle.std.specs.Prelude.{◌≡◌, ℕ, ◌+◌, ◌*◌, ◌^◌, ◌<◌, ◌≤◌, length, replicate, count_by, nat_eq, position, slice_set};
-ghost use Rattle.mesh.specs.Mesh.{Counted, friend as friend_of};
+ghost use Rattle.mesh.specs.Mesh.{friend as friend_of};
 ghost use Rattle.refinement.specs.Tasks.{put, new_corners, fallen, quad_task, point_task};
 ghost use Rattle.tables.specs.Lent.{mesh};
 ghost use Rattle.layout.specs.Laws.{four_laid};
 ghost use Rattle.layout.specs.Layout.{block, level_at, laid, shifted, standing_in, after_task, InRange};
-ghost use Rattle.bench.specs.State.{Ready};
+ghost use Rattle.bench.specs.State.{Lengths, Ready};
 ghost use Rattle.bench.specs.Writes.{friends_by, marks_by, starts_by};
 
 use crate::stage::Size;
@@ -39,27 +39,82 @@ struct QuadTask {
     ghost g1_there: { g1 < 2 * size.quads },
 }
 
-// The corners of its four new quads.
-fn quad_row(standing: &Tables<'_>, task: QuadTask) -> [u32; 16]
-    requires corners { length standing.now.corners.now ≡ 4 * task.size.quads }
-    requires size { ((mesh standing.now).quads ≡ task.size.quads) × ((mesh standing.now).points ≡ task.size.points) }
-    requires range { InRange (mesh standing.now) }
-    ensures { task.g0 ≡ friend_of (mesh standing.now) (2 * task.q) → task.g1 ≡ friend_of (mesh standing.now) (2 * task.q + 1) → result ≡ new_corners (mesh standing.now) task.q }
+impl QuadTask {
+    // The corners of its four new quads.
+    fn row(self, standing: &Tables<'_>) -> [u32; 16]
+        requires lengths { Lengths standing.now self.size }
+        requires range { InRange (mesh standing.now) }
+        ensures { self.g0 ≡ friend_of (mesh standing.now) (2 * self.q) → self.g1 ≡ friend_of (mesh standing.now) (2 * self.q + 1) → result ≡ new_corners (mesh standing.now) self.q }
+    {
+        let q = self.q;
+        let quads = self.size.quads;
+        let w0 = old_slot(quads, Point(standing.corners[4 * q])) as u32;
+        let w1 = old_slot(quads, Point(standing.corners[4 * q + 1])) as u32;
+        let w2 = old_slot(quads, Point(standing.corners[4 * q + 2])) as u32;
+        let w3 = old_slot(quads, Point(standing.corners[4 * q + 3])) as u32;
+        let e0 = edge_slot(Edge(self.g0 as u32)) as u32;
+        let e1 = edge_slot(Edge(self.g1 as u32)) as u32;
+        let face = (4 * q + 1) as u32;
+        let d0 = (4 * q + 2) as u32;
+        let d1 = (4 * q + 3) as u32;
+        [
+            w0, d0, face, e1, w1, e0, face, d0, w2, d1, face, e0, w3, e1, face, d1,
+        ]
+    }
+
+    // What it writes to the friends that begin at word `at`.
+    fn put_friends(self, cells: &mut [u32], at: usize)
+        requires { at + 8 * self.size.quads ≤ length cells.old }
+        ensures { cells.new ≡ put (shifted at (friends_by self.q self.g0 self.g1)) cells.old }
+    {
+        let q = self.q;
+        cells[at + 8 * q] = (8 * q + 3) as u32;
+        cells[at + (8 * q + 2)] = (8 * q + 5) as u32;
+        cells[at + (8 * q + 4)] = (8 * q + 7) as u32;
+        cells[at + (8 * q + 6)] = (8 * q + 1) as u32;
+        cells[at + (8 * q + 1)] = (4 * self.g1) as u32;
+        cells[at + (8 * q + 5)] = (4 * self.g0) as u32;
+        cells[at + (4 * self.g0 + 3)] = (8 * q + 2) as u32;
+        cells[at + (4 * self.g1 + 3)] = (8 * q + 6) as u32;
+    }
+
+    // What it writes to the marks.
+    fn put_marks(self, cells: &mut [u32], at: usize, m0: u32, m1: u32)
+        requires { at + 8 * self.size.quads ≤ length cells.old }
+        ensures { cells.new ≡ put (shifted at (marks_by self.q self.g0 self.g1 m0 m1)) cells.old }
+    {
+        let q = self.q;
+        cells[at + 8 * q] = 0;
+        cells[at + (8 * q + 2)] = 0;
+        cells[at + (8 * q + 4)] = 0;
+        cells[at + (8 * q + 6)] = 0;
+        cells[at + (8 * q + 1)] = m1;
+        cells[at + (8 * q + 5)] = m0;
+        cells[at + (4 * self.g0 + 3)] = m0;
+        cells[at + (4 * self.g1 + 3)] = m1;
+    }
+
+    // What it writes to the starts.
+    #[tactic(auto, using(crate::proofs::Tasks::face_slot_is, crate::proofs::Tasks::edge_slot_is))]
+    fn put_starts(self, cells: &mut [u32], at: usize)
+        requires { at + 4 * self.size.quads ≤ length cells.old }
+        ensures { cells.new ≡ put (shifted at (starts_by self.q self.g0 self.g1)) cells.old }
+    {
+        let face = face_slot(Quad(self.q as u32));
+        let e0 = edge_slot(Edge(self.g0 as u32));
+        let e1 = edge_slot(Edge(self.g1 as u32));
+        cells[at + face] = (16 * self.q + 2) as u32;
+        cells[at + e0] = (8 * self.g0 + 1) as u32;
+        cells[at + e1] = (8 * self.g1 + 1) as u32;
+    }
+}
+
+// Writes xs over the words from `at` on.
+fn copy_in(cells: &mut [u32], at: usize, xs: &[u32])
+    requires { at + length xs.now ≤ length cells.old }
+    ensures { cells.new ≡ laid cells.old at xs.now }
 {
-    let q = task.q;
-    let quads = task.size.quads;
-    let w0 = old_slot(quads, Point(standing.corners[4 * q])) as u32;
-    let w1 = old_slot(quads, Point(standing.corners[4 * q + 1])) as u32;
-    let w2 = old_slot(quads, Point(standing.corners[4 * q + 2])) as u32;
-    let w3 = old_slot(quads, Point(standing.corners[4 * q + 3])) as u32;
-    let e0 = edge_slot(Edge(task.g0 as u32)) as u32;
-    let e1 = edge_slot(Edge(task.g1 as u32)) as u32;
-    let face = (4 * q + 1) as u32;
-    let d0 = (4 * q + 2) as u32;
-    let d1 = (4 * q + 3) as u32;
-    [
-        w0, d0, face, e1, w1, e0, face, d0, w2, d1, face, e0, w3, e1, face, d1,
-    ]
+    cells[at..at + xs.len()].copy_from_slice(xs);
 }
 
 // The lent words, in a struct of their own with no ghost field: a method of a struct that has one may not lend the slice.
@@ -73,7 +128,7 @@ impl<'a> Words<'a> {
     pub(crate) fn tables(&self, base: usize, size: Size) -> Tables<'_>
         requires { base + (8 * size.quads + size.points) ≤ length self.now.cells.now }
         ensures is { mesh result ≡ level_at self.now.cells.now base size.quads size.points }
-        ensures lengths { (length result.corners.now ≡ 4 * size.quads) × (length result.friends.now ≡ 2 * size.quads) × (length result.marks.now ≡ 2 * size.quads) × (length result.starts.now ≡ size.points) }
+        ensures lengths { Lengths result size }
     {
         let quads = size.quads as usize;
         let friends = base + 4 * quads;
@@ -85,61 +140,6 @@ impl<'a> Words<'a> {
             marks: &self.cells[marks..starts],
             starts: &self.cells[starts..starts + size.points as usize],
         }
-    }
-
-    // Writes xs over the words from `at` on.
-    fn copy_in(&mut self, at: usize, xs: &[u32])
-        requires { at + length xs.now ≤ length self.old.cells.now }
-        ensures { self.new.cells.now ≡ laid self.old.cells.now at xs.now }
-    {
-        let end = at + xs.len();
-        self.cells[at..end].copy_from_slice(xs);
-    }
-
-    // What a quad task writes to the friends that begin at `at`.
-    fn put_friends(&mut self, at: usize, task: QuadTask)
-        requires { at + 8 * task.size.quads ≤ length self.old.cells.now }
-        ensures { self.new.cells.now ≡ put (shifted at (friends_by task.q task.g0 task.g1)) self.old.cells.now }
-    {
-        let q = task.q;
-        self.cells[at + 8 * q] = (8 * q + 3) as u32;
-        self.cells[at + (8 * q + 2)] = (8 * q + 5) as u32;
-        self.cells[at + (8 * q + 4)] = (8 * q + 7) as u32;
-        self.cells[at + (8 * q + 6)] = (8 * q + 1) as u32;
-        self.cells[at + (8 * q + 1)] = (4 * task.g1) as u32;
-        self.cells[at + (8 * q + 5)] = (4 * task.g0) as u32;
-        self.cells[at + (4 * task.g0 + 3)] = (8 * q + 2) as u32;
-        self.cells[at + (4 * task.g1 + 3)] = (8 * q + 6) as u32;
-    }
-
-    // What it writes to the marks.
-    fn put_marks(&mut self, at: usize, task: QuadTask, m0: u32, m1: u32)
-        requires { at + 8 * task.size.quads ≤ length self.old.cells.now }
-        ensures { self.new.cells.now ≡ put (shifted at (marks_by task.q task.g0 task.g1 m0 m1)) self.old.cells.now }
-    {
-        let q = task.q;
-        self.cells[at + 8 * q] = 0;
-        self.cells[at + (8 * q + 2)] = 0;
-        self.cells[at + (8 * q + 4)] = 0;
-        self.cells[at + (8 * q + 6)] = 0;
-        self.cells[at + (8 * q + 1)] = m1;
-        self.cells[at + (8 * q + 5)] = m0;
-        self.cells[at + (4 * task.g0 + 3)] = m0;
-        self.cells[at + (4 * task.g1 + 3)] = m1;
-    }
-
-    // What it writes to the starts.
-    #[tactic(auto, using(crate::proofs::Tasks::face_slot_is, crate::proofs::Tasks::edge_slot_is))]
-    fn put_starts(&mut self, at: usize, task: QuadTask)
-        requires { at + 4 * task.size.quads ≤ length self.old.cells.now }
-        ensures { self.new.cells.now ≡ put (shifted at (starts_by task.q task.g0 task.g1)) self.old.cells.now }
-    {
-        let face = face_slot(Quad(task.q as u32));
-        let e0 = edge_slot(Edge(task.g0 as u32));
-        let e1 = edge_slot(Edge(task.g1 as u32));
-        self.cells[at + face] = (16 * task.q + 2) as u32;
-        self.cells[at + e0] = (8 * task.g0 + 1) as u32;
-        self.cells[at + e1] = (8 * task.g1 + 1) as u32;
     }
 
     // The task of a quad of a standing level: the words of four new quads, and that it has run.
@@ -158,13 +158,13 @@ impl<'a> Words<'a> {
         };
         let m0 = fallen_mark(standing.marks[2 * q]);
         let m1 = fallen_mark(standing.marks[2 * q + 1]);
-        let row = quad_row(&standing, task);
+        let row = task.row(&standing);
         let at = size.words();
         let made = 4 * size.quads as usize;
-        self.copy_in(at + 16 * q, &row);
-        self.put_friends(at + 4 * made, task);
-        self.put_marks(at + 6 * made, task, m0, m1);
-        self.put_starts(at + 8 * made, task);
+        copy_in(self.cells, at + 16 * q, &row);
+        task.put_friends(self.cells, at + 4 * made);
+        task.put_marks(self.cells, at + 6 * made, m0, m1);
+        task.put_starts(self.cells, at + 8 * made);
         self.cells[size.ran_from() + q] = 1;
     }
 
@@ -214,15 +214,15 @@ impl<'a> Words<'a> {
 
     // Writes four tables over the front.
     pub(crate) fn lay_tables(&mut self, tables: &Tables<'_>, size: Size)
-        requires shape { (Counted (mesh tables.now)) × (size.quads ≡ (mesh tables.now).quads) }
-        requires room { 8 * size.quads + (mesh tables.now).points ≤ length self.old.cells.now }
+        requires lengths { Lengths tables.now size }
+        requires room { 8 * size.quads + size.points ≤ length self.old.cells.now }
         ensures { self.new.cells.now ≡ four_laid self.old.cells.now size.quads tables.now.corners.now tables.now.friends.now tables.now.marks.now tables.now.starts.now }
     {
         let quads = size.quads as usize;
-        self.copy_in(0, tables.corners);
-        self.copy_in(4 * quads, tables.friends);
-        self.copy_in(6 * quads, tables.marks);
-        self.copy_in(8 * quads, tables.starts);
+        copy_in(self.cells, 0, tables.corners);
+        copy_in(self.cells, 4 * quads, tables.friends);
+        copy_in(self.cells, 6 * quads, tables.marks);
+        copy_in(self.cells, 8 * quads, tables.starts);
     }
 
     // Writes 0 into all words of a level in work above one of this size.

@@ -54,7 +54,12 @@ pub lay_tables-requires : goal.lay_tables-requires
 unfolding mesh_of
 lay_tables-requires c =
     let t = c.args.tables.now in
-    record { shape = ((judged_lawful t.corners.now t.friends.now t.marks.now t.starts.now c.in_ok-judge.ensures).sound.counted, c.quads.ensures); room = omega arith }
+    let w = (judged_lawful t.corners.now t.friends.now t.marks.now t.starts.now c.in_ok-judge.ensures).sound.counted in
+    let q = c.quads.ensures in
+    let k = w.corner_count in
+    let f = w.friend_count in
+    let m = w.mark_count in
+    record { lengths = record { corners = omega arith; friends = omega arith; marks = omega arith; starts = refl }; room = omega arith }
 
 pub invariant_of-self : goal.invariant_of-self
 unfolding mesh_of
