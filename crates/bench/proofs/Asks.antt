@@ -1,5 +1,5 @@
 -- The tables of a level that a bench lends, by its words.
-use Rattle.std.proofs.Common.{◌≡◌, ℕ, ◌+◌, ◌*◌, ◌/◌, ◌<◌, ◌≤◌, List, length, get_or, Some, sym, ap, ◌∙◌, subst, inl, inr, arith}
+use Rattle.std.proofs.Common.{◌≡◌, ℕ, ◌+◌, ◌*◌, ◌/◌, ◌<◌, ◌≤◌, leb, List, length, get_or, Some, Ok, Err, sym, refl, ap, ◌∙◌, subst, inl, inr, arith}
 use mathlib.Core.Logic.{∥∥₁_elim}
 use mathlib.Core.HLevel.{⊥_prop}
 use Rattle.std.proofs.lemmas.Bool.{cases_lt, cases_eq}
@@ -19,7 +19,9 @@ use Rattle.tables.specs.declared.lent.Tables.{Tables}
 use Rattle.chain.specs.Calls.{Work}
 use Rattle.layout.specs.Layout.{block, level_at, standing_in, work_in, Written}
 use Rattle.layout.proofs.Blocks.{length_block}
-use Rattle.bench.specs.State.{bench_at, Few, Room, Stands, Works}
+use Rattle.bench.specs.State.{bench_at, AtWork}
+use Rattle.bench.specs.declared.stage.Size.{Size}
+use Rattle.bench.proofs.Keeps.{Kept}
 use Rattle.bench.specs.declared.stage.Stage.{Stage}
 use Rattle.bench.specs.declared.stage.Stage.TheVariants.{Standing, Working}
 use Rattle.bench.specs.Questions.{seen, unseen, LawfulIf, Lent}
@@ -76,9 +78,9 @@ written_mark m w h g few o k =
     work_mark m law few x.tasks_run x.are_tasks o k (λ y. n (subst (λ z. MarkWord (mark z o)) (sym x.tables_are) y)))))
 
 -- the tables that a bench lends
-module _ (mark-number F V : ℕ) (ws : List ℕ) (t : Tables) (s : Stage) where
-  lent : (l : Level) (m : Mesh) → unseen (bench_at s mark-number F V ws) l ≡ fine → seen (bench_at s mark-number F V ws) l ≡ Some m → mesh t ≡ m → Counted m → m.quads ≤ most_quads → m.points ≤ 2 * m.quads →
-      ((o : ℕ) → o < 2 * m.quads → MarkWord (mark m o)) → LawfulIf l m → Lent (bench_at s mark-number F V ws) l t
+module _ (b : State) (ws : List ℕ) (t : Tables) where
+  lent : (l : Level) (m : Mesh) → unseen b l ≡ fine → seen b l ≡ Some m → mesh t ≡ m → Counted m → m.quads ≤ most_quads → m.points ≤ 2 * m.quads →
+      ((o : ℕ) → o < 2 * m.quads → MarkWord (mark m o)) → LawfulIf l m → Lent b l t
   lent l m u k e c q p w law = record {
     there = u;
     is = k ∙ ap Some (sym e);
@@ -89,28 +91,29 @@ module _ (mark-number F V : ℕ) (ws : List ℕ) (t : Tables) (s : Stage) where
     lawful = subst (LawfulIf l) (sym e) law;
   }
 
-  pub lent_standing : s ≡ Standing → Few s F V → Room s F V ws → ∥ Stands s F V ws ∥₁ → mesh t ≡ level_at ws 0 F V → Lent (bench_at s mark-number F V ws) LevelStanding t
-  lent_standing e few room h k =
-      let f = subst (λ x. Few x F V) e few in
-      let r = subst (λ x. Room x F V ws) e room in
-      lent LevelStanding (level_at ws 0 F V) (ap (λ x. unseen (bench_at x mark-number F V ws) LevelStanding) e) (ap (λ x. seen (bench_at x mark-number F V ws) LevelStanding) e)
-      k (counted_level ws 0 F V (omega arith)) f.0 f.1 (lawful_mark _ (subst (λ x. ∥ Stands x F V ws ∥₁) e h)) (lawful_shown _ (subst (λ x. ∥ Stands x F V ws ∥₁) e h))
+  lent_below : (s : Size) → unseen b LevelStanding ≡ fine → seen b LevelStanding ≡ Some (standing_in ws s.quads s.points) → 8 * s.quads + s.points ≤ length ws →
+      ∥ Lawful (standing_in ws s.quads s.points) ∥₁ → mesh t ≡ level_at ws 0 s.quads s.points → Lent b LevelStanding t
+  lent_below s u k room law e =
+      lent LevelStanding (standing_in ws s.quads s.points) u k e (counted_level ws 0 s.quads s.points (omega arith)) s.quads_few s.points_few (lawful_mark _ law) (lawful_shown _ law)
 
-  pub lent_below : s ≡ Working → Few s F V → Room s F V ws → ∥ Stands s F V ws ∥₁ → mesh t ≡ level_at ws 0 F V → Lent (bench_at s mark-number F V ws) LevelStanding t
-  lent_below e few room h k =
-      let f = subst (λ x. Few x F V) e few in
-      let q = f.0 in
-      let r = subst (λ x. Room x F V ws) e room in
-      lent LevelStanding (level_at ws 0 F V) (ap (λ x. unseen (bench_at x mark-number F V ws) LevelStanding) e) (ap (λ x. seen (bench_at x mark-number F V ws) LevelStanding) e)
-      k (counted_level ws 0 F V (omega arith)) (omega arith) f.1 (lawful_mark _ (subst (λ x. ∥ Stands x F V ws ∥₁) e h)) (lawful_shown _ (subst (λ x. ∥ Stands x F V ws ∥₁) e h))
+  pub lent_work : (r s : Size) (mark n a : ℕ) → AtWork b mark s n ws → a ≡ 8 * s.quads + s.points → r.quads ≡ 4 * s.quads → r.points ≡ s.points + 3 * s.quads → mesh t ≡ level_at ws a r.quads r.points → Lent b InWork t
+  lent_work r s mark n a w f q p e =
+      let room = w.ready.room in
+      let few = w.few in
+      let g : mesh t ≡ level_at ws (8 * s.quads + s.points) (4 * s.quads) (s.points + 3 * s.quads) = e ∙ ap (λ x. level_at ws x r.quads r.points) f ∙ ap (λ x. level_at ws (8 * s.quads + s.points) x r.points) q ∙ ap (λ x. level_at ws (8 * s.quads + s.points) (4 * s.quads) x) p in
+      lent InWork (level_at ws (8 * s.quads + s.points) (4 * s.quads) (s.points + 3 * s.quads)) (ap (λ x. unseen x InWork) w.is) (ap (λ x. seen x InWork) w.is)
+      g (counted_level ws (8 * s.quads + s.points) (4 * s.quads) (s.points + 3 * s.quads) (omega arith)) (omega arith) (let k = s.points_few in omega arith)
+      (λ o l. written_mark (standing_in ws s.quads s.points) (work_in ws s.quads s.points) w.lawful w.written (omega arith) o (omega arith)) tt
 
-  pub lent_work : s ≡ Working → Few s F V → Room s F V ws → ∥ Stands s F V ws ∥₁ → ∥ Works s F V ws ∥₁ → mesh t ≡ level_at ws (8 * F + V) (4 * F) (V + 3 * F) →
-      Lent (bench_at s mark-number F V ws) InWork t
-  lent_work e few room h g k =
-      let f = subst (λ x. Few x F V) e few in
-      let q = f.0 in
-      let p = f.1 in
-      let r = subst (λ x. Room x F V ws) e room in
-      lent InWork (level_at ws (8 * F + V) (4 * F) (V + 3 * F)) (ap (λ x. unseen (bench_at x mark-number F V ws) InWork) e) (ap (λ x. seen (bench_at x mark-number F V ws) InWork) e)
-      k (counted_level ws (8 * F + V) (4 * F) (V + 3 * F) (omega arith)) (omega arith) (omega arith)
-      (λ o l. written_mark (standing_in ws F V) (work_in ws F V) (subst (λ x. ∥ Stands x F V ws ∥₁) e h) (subst (λ x. ∥ Works x F V ws ∥₁) e g) (omega arith) o (omega arith)) tt
+-- and by its stage
+module _ (mark : ℕ) (ws : List ℕ) (t : Tables) (st : Stage) (s : Size) (kept : Kept st mark ws) (is : mesh t ≡ level_at ws 0 s.quads s.points) where
+  pub lent_standing : st ≡ Standing s → Lent (bench_at st mark ws) LevelStanding t
+  lent_standing e =
+      let k = subst (λ x. Kept x mark ws) e kept in
+      subst (λ x. Lent (bench_at x mark ws) LevelStanding t) (sym e) (lent_below (bench_at (Standing s) mark ws) ws t s refl refl k.room k.lawful is)
+
+  pub lent_while_working : (n : ℕ) → st ≡ Working s n → Lent (bench_at st mark ws) LevelStanding t
+  lent_while_working n e =
+      let k = subst (λ x. Kept x mark ws) e kept in
+      let room = k.room in
+      subst (λ x. Lent (bench_at x mark ws) LevelStanding t) (sym e) (lent_below (bench_at (Working s n) mark ws) ws t s refl refl (omega arith) k.lawful is)

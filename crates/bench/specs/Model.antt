@@ -9,7 +9,7 @@ use Rattle.bench.specs.declared.bench.slip.Slip.{Slip}
 use Rattle.bench.specs.declared.bench.slip.Declined.{Declined}
 
 abbrev pub state : Bench → State
-state b = bench_at b.stage b.mark b.quads b.points b.words.cells.now
+state b = bench_at b.stage b.mark b.words.cells.now
 
 -- the slip that is handed out bears the mark number m
 abbrev pub Bears : Result Slip Fault → ℕ → Type 0

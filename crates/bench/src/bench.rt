@@ -15,13 +15,9 @@ pub struct Bench<'a> {
     // the number that its slips bear
     mark: u32,
     stage: Stage,
-    // the quads and points of the standing level, and how many tasks of the level in work have yet to run
-    quads: u32,
-    points: u32,
-    left: u32,
-    ghost few: { Few stage quads points },
-    ghost room: { Room stage quads points words.cells.now },
-    ghost lawful: { ∥ Stands stage quads points words.cells.now ∥₁ },
-    ghost written: { ∥ Works stage quads points words.cells.now ∥₁ },
-    ghost count: { Count stage mark quads points left words.cells.now },
+    ghost few: { Few stage },
+    ghost room: { Room stage words.cells.now },
+    ghost lawful: { ∥ Stands stage words.cells.now ∥₁ },
+    ghost written: { ∥ Works stage words.cells.now ∥₁ },
+    ghost count: { Count stage mark words.cells.now },
 }

@@ -1,41 +1,23 @@
-ghost use Rattle.std.specs.Prelude.{◌≡◌, ℕ, ◌+◌, ◌-◌, ◌*◌, ◌/◌, ◌^◌, ◌<◌, ◌≤◌, [], ◌∷◌, length, replicate, if◌then◌else◌, count_by, ◌==◌, nat_eq, nat_le, slice_index, slice_set};
-ghost use Rattle.mesh.specs.Count.{least};
-ghost use Rattle.mesh.specs.Mesh.{Counted, friend as friend_of};
-ghost use Rattle.refinement.specs.Tasks.{put, from as side_by_side, new_corners, edge_slot, fallen, quad_task, point_task};
+ghost use Rattle.std.specs.Prelude.{◌≡◌, ℕ, ◌+◌, ◌*◌, ◌^◌, ◌<◌, ◌≤◌, length, replicate, count_by, nat_eq, position, slice_set};
+ghost use Rattle.mesh.specs.Mesh.{friend as friend_of};
+ghost use Rattle.refinement.specs.Tasks.{put, new_corners, fallen, quad_task, point_task};
 ghost use Rattle.tables.specs.Lent.{mesh};
 ghost use Rattle.layout.specs.Laws.{four_laid};
 ghost use Rattle.layout.specs.Layout.{block, level_at, laid, shifted, standing_in, after_task, InRange};
+ghost use Rattle.bench.specs.State.{Lengths, Ready};
 ghost use Rattle.bench.specs.Writes.{friends_by, marks_by, starts_by};
 
+use crate::stage::Size;
+use mesh::mark::INFINITE;
+use mesh::number::{Edge, Point, Quad};
 use tables::lent::Tables;
+use tables::slot::{edge_slot, face_slot, old_slot};
 
-// The word of an infinite mark, and by how much a semi-sharp one falls.
-const INFINITE: u32 = 65535;
-
+// By how much a semi-sharp mark falls.
 const FALL: u32 = 256;
 
-// The new slot of an old point.
-pub fn old_slot(quads: usize, point: u32) -> u32
-    requires { (quads ≤ 2 ^ 20) × (point ≤ 2 ^ 21) }
-    ensures { result ≡ (if nat_le point quads then 4 * point else 3 * quads + point) }
-{
-    if point as usize <= quads {
-        4 * point
-    } else {
-        3 * quads as u32 + point
-    }
-}
-
-// The new slot of the point of an edge.
-pub fn edge_slot(edge: usize) -> u32
-    requires { edge ≤ 2 ^ 21 }
-    ensures { result ≡ edge_slot edge }
-{
-    (4 * (edge / 2) + 2 + edge % 2) as u32
-}
-
 // The mark of the halves of an edge.
-pub fn fallen_mark(word: u32) -> u32
+fn fallen_mark(word: u32) -> u32
     ensures { result ≡ fallen word }
 {
     if word == INFINITE {
@@ -45,132 +27,33 @@ pub fn fallen_mark(word: u32) -> u32
     }
 }
 
-// The lent words, in a struct of their own with no ghost field: a method of a struct that has one may not lend the slice.
-#[derive(Drop)]
-pub struct Words<'a> {
-    pub cells: &'a mut [u32],
+// The task of a quad: the quad, and the friends of its two off-edges.
+#[derive(Clone, Copy)]
+struct QuadTask {
+    size: Size,
+    q: usize,
+    g0: usize,
+    g1: usize,
+    ghost q_there: { q < size.quads },
+    ghost g0_there: { g0 < 2 * size.quads },
+    ghost g1_there: { g1 < 2 * size.quads },
 }
 
-impl<'a> Words<'a> {
-    // The words of a level of so many quads that begins at `base`.
-    pub(crate) fn corner(&self, base: usize, quads: usize, corner: usize) -> u32
-        requires { (corner < 4 * quads) × (base + 4 * quads ≤ length self.now.cells.now) }
-        ensures { result ≡ slice_index (block self.now.cells.now base (4 * quads)) corner }
+impl QuadTask {
+    // The corners of its four new quads.
+    fn row(self, standing: &Tables<'_>) -> [u32; 16]
+        requires lengths { Lengths standing.now self.size }
+        requires range { InRange (mesh standing.now) }
+        ensures { self.g0 ≡ friend_of (mesh standing.now) (2 * self.q) → self.g1 ≡ friend_of (mesh standing.now) (2 * self.q + 1) → result ≡ new_corners (mesh standing.now) self.q }
     {
-        self.cells[base + corner]
-    }
-
-    pub(crate) fn friend(&self, base: usize, quads: usize, off: usize) -> u32
-        requires { (off < 2 * quads) × (base + 6 * quads ≤ length self.now.cells.now) }
-        ensures { result ≡ slice_index (block self.now.cells.now (base + 4 * quads) (2 * quads)) off }
-    {
-        self.cells[base + 4 * quads + off]
-    }
-
-    pub(crate) fn mark(&self, base: usize, quads: usize, off: usize) -> u32
-        requires { (off < 2 * quads) × (base + 8 * quads ≤ length self.now.cells.now) }
-        ensures { result ≡ slice_index (block self.now.cells.now (base + 6 * quads) (2 * quads)) off }
-    {
-        self.cells[base + 6 * quads + off]
-    }
-
-    pub(crate) fn start(&self, base: usize, quads: usize, points: usize, point: usize) -> u32
-        requires { (point < points) × (base + (8 * quads + points) ≤ length self.now.cells.now) }
-        ensures { result ≡ slice_index (block self.now.cells.now (base + 8 * quads) points) point }
-    {
-        self.cells[base + 8 * quads + point]
-    }
-
-    // Writes a row of words side by side.
-    pub(crate) fn put_row(&mut self, at: usize, row: &[u32])
-        requires { at + length row.now ≤ length self.old.cells.now }
-        ensures { self.new.cells.now ≡ put (side_by_side at 0 row.now) self.old.cells.now }
-    {
-        lay_row(self.cells, at, row);
-    }
-
-    // What a quad task writes to the friends that begin at `at`.
-    pub(crate) fn put_friends(&mut self, at: usize, q: usize, g0: usize, g1: usize)
-        requires q_in_bounds { (at + (8 * q + 8) ≤ length self.old.cells.now) × (q < 2 ^ 18) }
-        requires g0_in_bounds { (at + (4 * g0 + 4) ≤ length self.old.cells.now) × (g0 < 2 ^ 19) }
-        requires g1_in_bounds { (at + (4 * g1 + 4) ≤ length self.old.cells.now) × (g1 < 2 ^ 19) }
-        ensures { self.new.cells.now ≡ put (shifted at (friends_by q g0 g1)) self.old.cells.now }
-    {
-        self.cells[at + 8 * q] = (8 * q + 3) as u32;
-        self.cells[at + (8 * q + 2)] = (8 * q + 5) as u32;
-        self.cells[at + (8 * q + 4)] = (8 * q + 7) as u32;
-        self.cells[at + (8 * q + 6)] = (8 * q + 1) as u32;
-        self.cells[at + (8 * q + 1)] = (4 * g1) as u32;
-        self.cells[at + (8 * q + 5)] = (4 * g0) as u32;
-        self.cells[at + (4 * g0 + 3)] = (8 * q + 2) as u32;
-        self.cells[at + (4 * g1 + 3)] = (8 * q + 6) as u32;
-    }
-
-    // What it writes to the marks.
-    pub(crate) fn put_marks(&mut self, at: usize, q: usize, g0: usize, g1: usize, m0: u32, m1: u32)
-        requires q_in_bounds { (at + (8 * q + 8) ≤ length self.old.cells.now) × (q < 2 ^ 18) }
-        requires g0_in_bounds { (at + (4 * g0 + 4) ≤ length self.old.cells.now) × (g0 < 2 ^ 19) }
-        requires g1_in_bounds { (at + (4 * g1 + 4) ≤ length self.old.cells.now) × (g1 < 2 ^ 19) }
-        ensures { self.new.cells.now ≡ put (shifted at (marks_by q g0 g1 m0 m1)) self.old.cells.now }
-    {
-        self.cells[at + 8 * q] = 0;
-        self.cells[at + (8 * q + 2)] = 0;
-        self.cells[at + (8 * q + 4)] = 0;
-        self.cells[at + (8 * q + 6)] = 0;
-        self.cells[at + (8 * q + 1)] = m1;
-        self.cells[at + (8 * q + 5)] = m0;
-        self.cells[at + (4 * g0 + 3)] = m0;
-        self.cells[at + (4 * g1 + 3)] = m1;
-    }
-
-    // What it writes to the starts.
-    pub(crate) fn put_starts(&mut self, at: usize, q: usize, g0: usize, g1: usize)
-        requires q_in_bounds { (at + (4 * q + 2) ≤ length self.old.cells.now) × (q < 2 ^ 18) }
-        requires g0_in_bounds { (at + (4 * (g0 / 2) + 4) ≤ length self.old.cells.now) × (g0 < 2 ^ 19) }
-        requires g1_in_bounds { (at + (4 * (g1 / 2) + 4) ≤ length self.old.cells.now) × (g1 < 2 ^ 19) }
-        ensures { self.new.cells.now ≡ put (shifted at (starts_by q g0 g1)) self.old.cells.now }
-    {
-        self.cells[at + (4 * q + 1)] = (16 * q + 2) as u32;
-        self.cells[at + (4 * (g0 / 2) + 2 + g0 % 2)] = (8 * g0 + 1) as u32;
-        self.cells[at + (4 * (g1 / 2) + 2 + g1 % 2)] = (8 * g1 + 1) as u32;
-    }
-
-    // The task of quad q of a standing level: the words of four new quads, and that it has run.
-    pub(crate) fn run_quad(&mut self, quads: usize, points: usize, q: usize)
-        requires room { 44 * quads + 3 * points ≤ length self.old.cells.now }
-        requires few { (quads ≤ 2 ^ 18) × (points ≤ 2 * quads) }
-        requires there { q < quads }
-        requires range { InRange (standing_in self.old.cells.now quads points) }
-        ensures { self.new.cells.now ≡ after_task (standing_in self.old.cells.now quads points) (quad_task q) self.old.cells.now }
-    {
-        let g0 = self.friend(0, quads, 2 * q) as usize;
-        let g1 = self.friend(0, quads, 2 * q + 1) as usize;
-        let m0 = fallen_mark(self.mark(0, quads, 2 * q));
-        let m1 = fallen_mark(self.mark(0, quads, 2 * q + 1));
-        let row = self.quad_row(quads, points, q, g0, g1);
-        let at = 8 * quads + points;
-        let made = 4 * quads;
-        self.put_row(at + 16 * q, &row);
-        self.put_friends(at + 4 * made, q, g0, g1);
-        self.put_marks(at + 6 * made, q, g0, g1, m0, m1);
-        self.put_starts(at + 8 * made, q, g0, g1);
-        self.cells[43 * quads + 2 * points + q] = 1;
-    }
-
-    // The corners of the four new quads of quad q.
-    fn quad_row(&self, quads: usize, points: usize, q: usize, g0: usize, g1: usize) -> [u32; 16]
-        requires room { 8 * quads + points ≤ length self.now.cells.now }
-        requires few { (quads ≤ 2 ^ 18) × (points ≤ 2 * quads) }
-        requires there { (q < quads) × ((g0 < 2 * quads) × (g1 < 2 * quads)) }
-        requires range { InRange (standing_in self.now.cells.now quads points) }
-        ensures { g0 ≡ friend_of (standing_in self.now.cells.now quads points) (2 * q) → g1 ≡ friend_of (standing_in self.now.cells.now quads points) (2 * q + 1) → result ≡ new_corners (standing_in self.now.cells.now quads points) q }
-    {
-        let w0 = old_slot(quads, self.corner(0, quads, 4 * q));
-        let w1 = old_slot(quads, self.corner(0, quads, 4 * q + 1));
-        let w2 = old_slot(quads, self.corner(0, quads, 4 * q + 2));
-        let w3 = old_slot(quads, self.corner(0, quads, 4 * q + 3));
-        let e0 = edge_slot(g0);
-        let e1 = edge_slot(g1);
+        let q = self.q;
+        let quads = self.size.quads;
+        let w0 = old_slot(quads, Point(standing.corners[4 * q])) as u32;
+        let w1 = old_slot(quads, Point(standing.corners[4 * q + 1])) as u32;
+        let w2 = old_slot(quads, Point(standing.corners[4 * q + 2])) as u32;
+        let w3 = old_slot(quads, Point(standing.corners[4 * q + 3])) as u32;
+        let e0 = edge_slot(Edge(self.g0 as u32)) as u32;
+        let e1 = edge_slot(Edge(self.g1 as u32)) as u32;
         let face = (4 * q + 1) as u32;
         let d0 = (4 * q + 2) as u32;
         let d1 = (4 * q + 3) as u32;
@@ -179,68 +62,75 @@ impl<'a> Words<'a> {
         ]
     }
 
-    // The task of point v: its new start, and that it has run.
-    pub(crate) fn run_point(&mut self, quads: usize, points: usize, v: usize)
-        requires room { 44 * quads + 3 * points ≤ length self.old.cells.now }
-        requires few { (quads ≤ 2 ^ 18) × (points ≤ 2 * quads) }
-        requires there { v < points }
-        requires range { InRange (standing_in self.old.cells.now quads points) }
-        ensures { self.new.cells.now ≡ after_task (standing_in self.old.cells.now quads points) (point_task v) self.old.cells.now }
+    // What it writes to the friends that begin at word `at`.
+    fn put_friends(self, cells: &mut [u32], at: usize)
+        requires { at + 8 * self.size.quads ≤ length cells.old }
+        ensures { cells.new ≡ put (shifted at (friends_by self.q self.g0 self.g1)) cells.old }
     {
-        let start = self.start(0, quads, points, v);
-        let slot = old_slot(quads, v as u32) as usize;
-        let at = 8 * quads + points + 8 * (4 * quads);
-        self.cells[at + slot] = 4 * start;
-        self.cells[43 * quads + 2 * points + (quads + v)] = 1;
+        let q = self.q;
+        cells[at + 8 * q] = (8 * q + 3) as u32;
+        cells[at + (8 * q + 2)] = (8 * q + 5) as u32;
+        cells[at + (8 * q + 4)] = (8 * q + 7) as u32;
+        cells[at + (8 * q + 6)] = (8 * q + 1) as u32;
+        cells[at + (8 * q + 1)] = (4 * self.g1) as u32;
+        cells[at + (8 * q + 5)] = (4 * self.g0) as u32;
+        cells[at + (4 * self.g0 + 3)] = (8 * q + 2) as u32;
+        cells[at + (4 * self.g1 + 3)] = (8 * q + 6) as u32;
     }
 
-    // Whether a task of the level in work has yet to run.
-    pub(crate) fn waits(&self, quads: usize, points: usize, task: usize) -> bool
-        requires { (44 * quads + 3 * points ≤ length self.now.cells.now) × (task < quads + points) }
-        ensures { result ≡ (slice_index (block self.now.cells.now (43 * quads + 2 * points) (quads + points)) task == 0) }
+    // What it writes to the marks.
+    fn put_marks(self, cells: &mut [u32], at: usize, m0: u32, m1: u32)
+        requires { at + 8 * self.size.quads ≤ length cells.old }
+        ensures { cells.new ≡ put (shifted at (marks_by self.q self.g0 self.g1 m0 m1)) cells.old }
     {
-        self.cells[43 * quads + 2 * points + task] == 0
+        let q = self.q;
+        cells[at + 8 * q] = 0;
+        cells[at + (8 * q + 2)] = 0;
+        cells[at + (8 * q + 4)] = 0;
+        cells[at + (8 * q + 6)] = 0;
+        cells[at + (8 * q + 1)] = m1;
+        cells[at + (8 * q + 5)] = m0;
+        cells[at + (4 * self.g0 + 3)] = m0;
+        cells[at + (4 * self.g1 + 3)] = m1;
     }
 
-    // How many tasks are left once this one has run.
-    pub(crate) fn left_after(&self, quads: usize, points: usize, task: usize, left: u32) -> u32
-        requires points_in_bounds { (44 * quads + 3 * points ≤ length self.now.cells.now) × (task < quads + points) }
-        requires left_value { left ≡ count_by (λ w. nat_eq w 0) (block self.now.cells.now (43 * quads + 2 * points) (quads + points)) }
-        ensures { result ≡ count_by (λ w. nat_eq w 0) (slice_set (block self.now.cells.now (43 * quads + 2 * points) (quads + points)) task 1) }
+    // What it writes to the starts.
+    #[tactic(auto, using(crate::proofs::Tasks::face_slot_is, crate::proofs::Tasks::edge_slot_is))]
+    fn put_starts(self, cells: &mut [u32], at: usize)
+        requires { at + 4 * self.size.quads ≤ length cells.old }
+        ensures { cells.new ≡ put (shifted at (starts_by self.q self.g0 self.g1)) cells.old }
     {
-        if self.waits(quads, points, task) {
-            left - 1
-        } else {
-            left
-        }
+        let face = face_slot(Quad(self.q as u32));
+        let e0 = edge_slot(Edge(self.g0 as u32));
+        let e1 = edge_slot(Edge(self.g1 as u32));
+        cells[at + face] = (16 * self.q + 2) as u32;
+        cells[at + e0] = (8 * self.g0 + 1) as u32;
+        cells[at + e1] = (8 * self.g1 + 1) as u32;
     }
+}
 
-    // The lowest task that has yet to run, or the count of tasks.
-    pub(crate) fn lowest(&self, quads: usize, points: usize) -> usize
-        requires { 44 * quads + 3 * points ≤ length self.now.cells.now }
-        ensures { result ≡ least (λ i. nat_eq (slice_index (block self.now.cells.now (43 * quads + 2 * points) (quads + points)) i) 0) (quads + points) }
-    {
-        for i in 0..quads + points {
-            if self.waits(quads, points, i) {
-                return i;
-            }
-        }
-        quads + points
-    }
+// Writes xs over the words from `at` on.
+fn copy_in(cells: &mut [u32], at: usize, xs: &[u32])
+    requires { at + length xs.now ≤ length cells.old }
+    ensures { cells.new ≡ laid cells.old at xs.now }
+{
+    cells[at..at + xs.len()].copy_from_slice(xs);
+}
 
-    // Moves `count` words from `from` on to the front.
-    pub(crate) fn bring_down(&mut self, from: usize, count: usize)
-        requires { from + count ≤ length self.old.cells.now }
-        ensures { self.new.cells.now ≡ laid self.old.cells.now 0 (block self.old.cells.now from count) }
-    {
-        move_down(self.cells, from, count);
-    }
+// The lent words, in a struct of their own with no ghost field: a method of a struct that has one may not lend the slice.
+#[derive(Drop)]
+pub struct Words<'a> {
+    pub cells: &'a mut [u32],
+}
 
-    // The tables of a level that begins at `base`, lent.
-    pub(crate) fn tables(&self, base: usize, quads: usize, points: usize) -> Tables<'_>
-        requires { base + (8 * quads + points) ≤ length self.now.cells.now }
-        ensures { mesh result ≡ level_at self.now.cells.now base quads points }
+impl<'a> Words<'a> {
+    // The tables of a level of this size that begins at `base`, lent.
+    pub(crate) fn tables(&self, base: usize, size: Size) -> Tables<'_>
+        requires { base + (8 * size.quads + size.points) ≤ length self.now.cells.now }
+        ensures is { mesh result ≡ level_at self.now.cells.now base size.quads size.points }
+        ensures lengths { Lengths result size }
     {
+        let quads = size.quads as usize;
         let friends = base + 4 * quads;
         let marks = base + 6 * quads;
         let starts = base + 8 * quads;
@@ -248,56 +138,106 @@ impl<'a> Words<'a> {
             corners: &self.cells[base..friends],
             friends: &self.cells[friends..marks],
             marks: &self.cells[marks..starts],
-            starts: &self.cells[starts..starts + points],
+            starts: &self.cells[starts..starts + size.points as usize],
         }
     }
 
+    // The task of a quad of a standing level: the words of four new quads, and that it has run.
+    pub(crate) fn run_quad(&mut self, size: Size, quad: Quad)
+        requires ready { Ready size self.old.cells.now }
+        requires there { quad.0 < size.quads }
+        ensures { self.new.cells.now ≡ after_task (standing_in self.old.cells.now size.quads size.points) (quad_task quad.0) self.old.cells.now }
+    {
+        let q = quad.0 as usize;
+        let standing = self.tables(0, size);
+        let task = QuadTask {
+            size,
+            q,
+            g0: standing.friends[2 * q] as usize,
+            g1: standing.friends[2 * q + 1] as usize,
+        };
+        let m0 = fallen_mark(standing.marks[2 * q]);
+        let m1 = fallen_mark(standing.marks[2 * q + 1]);
+        let row = task.row(&standing);
+        let at = size.words();
+        let made = 4 * size.quads as usize;
+        copy_in(self.cells, at + 16 * q, &row);
+        task.put_friends(self.cells, at + 4 * made);
+        task.put_marks(self.cells, at + 6 * made, m0, m1);
+        task.put_starts(self.cells, at + 8 * made);
+        self.cells[size.ran_from() + q] = 1;
+    }
+
+    // The task of a point: its new start, and that it has run.
+    pub(crate) fn run_point(&mut self, size: Size, point: Point)
+        requires ready { Ready size self.old.cells.now }
+        requires there { point.0 < size.points }
+        ensures { self.new.cells.now ≡ after_task (standing_in self.old.cells.now size.quads size.points) (point_task point.0) self.old.cells.now }
+    {
+        let v = point.0 as usize;
+        let quads = size.quads as usize;
+        let start = self.tables(0, size).starts[v];
+        let slot = old_slot(size.quads, point);
+        let at = size.words() + 8 * (4 * quads);
+        self.cells[at + slot] = 4 * start;
+        self.cells[size.ran_from() + (quads + v)] = 1;
+    }
+
+    // The words that say which tasks of the level in work have run.
+    fn ran(&self, size: Size) -> &[u32]
+        requires { 44 * size.quads + 3 * size.points ≤ length self.now.cells.now }
+        ensures { result.now ≡ block self.now.cells.now (43 * size.quads + 2 * size.points) (size.quads + size.points) }
+    {
+        &self.cells[size.ran_from()..size.words_to_begin()]
+    }
+
+    // How many tasks are left once this one has run.
+    pub(crate) fn left_after(&self, size: Size, task: usize, left: u32) -> u32
+        requires points_in_bounds { (44 * size.quads + 3 * size.points ≤ length self.now.cells.now) × (task < size.quads + size.points) }
+        requires left_value { left ≡ count_by (λ w. nat_eq w 0) (block self.now.cells.now (43 * size.quads + 2 * size.points) (size.quads + size.points)) }
+        ensures { result ≡ count_by (λ w. nat_eq w 0) (slice_set (block self.now.cells.now (43 * size.quads + 2 * size.points) (size.quads + size.points)) task 1) }
+    {
+        if self.ran(size)[task] == 0 {
+            left - 1
+        } else {
+            left
+        }
+    }
+
+    // The lowest task that has yet to run.
+    pub(crate) fn lowest(&self, size: Size) -> Option<usize>
+        requires { 44 * size.quads + 3 * size.points ≤ length self.now.cells.now }
+        ensures { result ≡ position (λ w. nat_eq w 0) (block self.now.cells.now (43 * size.quads + 2 * size.points) (size.quads + size.points)) }
+    {
+        self.ran(size).iter().position(|w| *w == 0)
+    }
+
     // Writes four tables over the front.
-    pub(crate) fn lay_tables(&mut self, tables: &Tables<'_>, quads: usize)
-        requires shape { (Counted (mesh tables.now)) × (quads ≡ (mesh tables.now).quads) }
-        requires room { 8 * quads + (mesh tables.now).points ≤ length self.old.cells.now }
-        ensures { self.new.cells.now ≡ four_laid self.old.cells.now quads tables.now.corners.now tables.now.friends.now tables.now.marks.now tables.now.starts.now }
+    pub(crate) fn lay_tables(&mut self, tables: &Tables<'_>, size: Size)
+        requires lengths { Lengths tables.now size }
+        requires room { 8 * size.quads + size.points ≤ length self.old.cells.now }
+        ensures { self.new.cells.now ≡ four_laid self.old.cells.now size.quads tables.now.corners.now tables.now.friends.now tables.now.marks.now tables.now.starts.now }
     {
-        self.copy_in(0, tables.corners);
-        self.copy_in(4 * quads, tables.friends);
-        self.copy_in(6 * quads, tables.marks);
-        self.copy_in(8 * quads, tables.starts);
+        let quads = size.quads as usize;
+        copy_in(self.cells, 0, tables.corners);
+        copy_in(self.cells, 4 * quads, tables.friends);
+        copy_in(self.cells, 6 * quads, tables.marks);
+        copy_in(self.cells, 8 * quads, tables.starts);
     }
 
-    // Writes 0 into `count` words from `at` on.
-    pub(crate) fn blank(&mut self, at: usize, count: usize)
-        requires { at + count ≤ length self.old.cells.now }
-        ensures { self.new.cells.now ≡ laid self.old.cells.now at (replicate count 0) }
+    // Writes 0 into all words of a level in work above one of this size.
+    pub(crate) fn blank(&mut self, size: Size)
+        requires { 44 * size.quads + 3 * size.points ≤ length self.old.cells.now }
+        ensures { self.new.cells.now ≡ laid self.old.cells.now (8 * size.quads + size.points) (replicate (36 * size.quads + 2 * size.points) 0) }
     {
-        self.cells[at..at + count].fill(0);
+        self.cells[size.words()..size.words_to_begin()].fill(0);
     }
 
-    // Writes xs over the words from `at` on.
-    pub(crate) fn copy_in(&mut self, at: usize, xs: &[u32])
-        requires { at + length xs.now ≤ length self.old.cells.now }
-        ensures { self.new.cells.now ≡ laid self.old.cells.now at xs.now }
+    // Moves the tables of the level in work above one of this size to the front.
+    pub(crate) fn bring_down(&mut self, size: Size)
+        requires { 44 * size.quads + 3 * size.points ≤ length self.old.cells.now }
+        ensures { self.new.cells.now ≡ laid self.old.cells.now 0 (block self.old.cells.now (8 * size.quads + size.points) (35 * size.quads + size.points)) }
     {
-        let end = at + xs.len();
-        self.cells[at..end].copy_from_slice(xs);
-    }
-}
-
-// Writes a row of words side by side.
-fn lay_row(cells: &mut [u32], at: usize, row: &[u32])
-    requires { at + length row.now ≤ length cells.old }
-    ensures { cells.new ≡ put (side_by_side at 0 row.now) cells.old }
-{
-    for (k, x) in row.iter().enumerate() {
-        cells[at + k] = *x;
-    }
-}
-
-// Moves `count` words from `from` on to the front.
-fn move_down(cells: &mut [u32], from: usize, count: usize)
-    requires { from + count ≤ length cells.old }
-    ensures { cells.new ≡ laid cells.old 0 (block cells.old from count) }
-{
-    for k in 0..count {
-        cells[k] = cells[from + k];
+        self.cells.copy_within(size.words()..size.ran_from(), 0);
     }
 }

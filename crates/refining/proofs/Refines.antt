@@ -109,13 +109,13 @@ begun s m f e =
     ∙ ap (λ x. record { words = s.words; mark = s.mark; standing = Some m; work = Some (record { tables = blank m; ran = x }) }) (ran_none m)
 
 -- a bench has one mark number at every stage
-mark_at : (stage : Stage) (mark F V : ℕ) (ws : List ℕ) → (bench_at stage mark F V ws).mark ≡ mark
-mark_at Empty mark F V ws = refl
-mark_at Standing mark F V ws = refl
-mark_at Working mark F V ws = refl
+mark_at : (stage : Stage) (mark : ℕ) (ws : List ℕ) → (bench_at stage mark ws).mark ≡ mark
+mark_at Empty mark ws = refl
+mark_at (Standing s) mark ws = refl
+mark_at (Working s n) mark ws = refl
 
 pub mark_is : (b : Bench) → (state b).mark ≡ b.mark
-mark_is b = mark_at b.stage b.mark b.quads b.points b.words.cells.now
+mark_is b = mark_at b.stage b.mark b.words.cells.now
 
 -- m stood in s, and t is s with a level in work in which every task of m has run
 pub record AllRan (s t : State) (m : Mesh) : Type 0 where

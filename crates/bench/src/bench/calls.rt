@@ -1,19 +1,19 @@
-ghost use Rattle.std.specs.Prelude.{◌≡◌, false, length, IfOk, IfErr};
-ghost use Rattle.mesh.specs.Refusals.{told};
-ghost use Rattle.chain.specs.Calls.{load, begin, quad as quad_call, point as point_call, finish, left};
+ghost use Rattle.std.specs.Prelude.{◌≡◌, ℕ, false, length, IfOk, IfErr, MatchResult};
+ghost use Rattle.mesh.specs.Refusals.{told, declined, number_of, place_of};
+ghost use Rattle.chain.specs.Calls.{load, begin, quad as quad_call, point as point_call, finish, withdraw, left, refusal};
 ghost use Rattle.chain.specs.Clauses.{Called, Made};
 ghost use Rattle.bench.specs.Model.{state, Bears, Counts, told_slip, ComesBack};
+ghost use Rattle.bench.specs.Questions.{unseen};
+ghost use Rattle.bench.specs.State.{AtWork};
+ghost use Rattle.bench.specs.declared.level.Level.TheVariants.{InWork};
 
 use super::Bench;
 use super::slip::{Declined, Slip};
-use crate::stage::Stage;
+use crate::stage::{Size, Stage};
 use crate::words::Words;
 use mesh::fault::Fault;
 use mesh::number::{Point, Quad, Task};
-use tables::lent::Tables;
-
-// No level has more quads.
-const MOST_QUADS: usize = 1048576;
+use tables::lent::{MOST_QUADS, Tables};
 
 impl<'a> Bench<'a> {
     // An empty bench over these words, whose slips bear this mark number.
@@ -24,9 +24,32 @@ impl<'a> Bench<'a> {
             words: Words { cells: words },
             mark,
             stage: Stage::Empty,
-            quads: 0,
-            points: 0,
-            left: 0,
+        }
+    }
+
+    // The size of the standing level and how many tasks have yet to run, while a level is in work.
+    pub(super) fn in_work(&self) -> Result<(Size, u32), Fault>
+        ensures { MatchResult result (λ p. AtWork (state self.now) self.now.mark p.0 p.1 self.now.words.cells.now) (λ f. unseen (state self.now) InWork ≡ declined (number_of f) (place_of f)) }
+    {
+        match self.stage {
+            Stage::Empty => Err(Fault::NoStandingLevel),
+            Stage::Standing(_) => Err(Fault::NoLevelInWork),
+            Stage::Working { size, left } => Ok((size, left)),
+        }
+    }
+
+    // The size of the standing level, if this is the slip of the level in work; the slip comes back in any case.
+    pub(super) fn closes(&self, slip: Slip) -> Result<(Size, Slip), Declined>
+        ensures call { MatchResult result (λ p. (slip.mark ≡ self.now.mark) × ((n : ℕ) × AtWork (state self.now) self.now.mark p.0 n self.now.words.cells.now)) (λ d. refusal (state self.now) (withdraw slip.mark) ≡ declined (number_of d.fault) (place_of d.fault)) }
+        ensures slip { MatchResult result (λ p. p.1 ≡ slip) (λ d. d.slip ≡ slip) }
+    {
+        match self.in_work() {
+            Ok((size, _)) if slip.mark() == self.mark => Ok((size, slip)),
+            Ok(_) => Err(Declined {
+                fault: Fault::OtherSlip,
+                slip,
+            }),
+            Err(fault) => Err(Declined { fault, slip }),
         }
     }
 
@@ -34,22 +57,19 @@ impl<'a> Bench<'a> {
     pub fn load(&mut self, tables: &Tables<'_>) -> Result<(), Fault>
         ensures { Called (state self.old) (load tables.now.corners.now tables.now.friends.now tables.now.marks.now tables.now.starts.now) (state self.new) (told result) }
     {
-        if let Err(fault) = tables.judge() {
-            return Err(fault);
-        }
-        if let Stage::Working = self.stage {
+        tables.judge()?;
+        if let Stage::Working { .. } = self.stage {
             return Err(Fault::LevelInWork);
         }
-        let quads = tables.quads();
-        let points = tables.starts.len();
-        if self.words.cells.len() < 8 * quads + points {
+        let size = Size {
+            quads: tables.quads() as u32,
+            points: tables.starts.len() as u32,
+        };
+        if self.words.cells.len() < size.words() {
             return Err(Fault::TooFewWords);
         }
-        self.words.lay_tables(tables, quads);
-        self.quads = quads as u32;
-        self.points = points as u32;
-        self.left = 0;
-        self.stage = Stage::Standing;
+        self.words.lay_tables(tables, size);
+        self.stage = Stage::Standing(size);
         Ok(())
     }
 
@@ -60,21 +80,20 @@ impl<'a> Bench<'a> {
         ensures unspent { IfOk result (λ s. s.spent ≡ false) }
     {
         match self.stage {
-            Stage::Working => Err(Fault::LevelInWork),
+            Stage::Working { .. } => Err(Fault::LevelInWork),
             Stage::Empty => Err(Fault::NoStandingLevel),
-            Stage::Standing => {
-                let quads = self.quads as usize;
-                let points = self.points as usize;
-                if 4 * quads > MOST_QUADS {
+            Stage::Standing(size) => {
+                if 4 * size.quads as usize > MOST_QUADS {
                     return Err(Fault::LevelTooLarge);
                 }
-                if self.words.cells.len() < 44 * quads + 3 * points {
+                if self.words.cells.len() < size.words_to_begin() {
                     return Err(Fault::TooFewWords);
                 }
-                self.words
-                    .blank(8 * quads + points, 36 * quads + 2 * points);
-                self.left = self.quads + self.points;
-                self.stage = Stage::Working;
+                self.words.blank(size);
+                self.stage = Stage::Working {
+                    size,
+                    left: size.quads + size.points,
+                };
                 Ok(Slip::new(self.mark))
             }
         }
@@ -85,22 +104,14 @@ impl<'a> Bench<'a> {
         ensures call { Called (state self.old) (quad_call quad.0) (state self.new) (told result) }
         ensures count { Counts result (left (state self.new)) }
     {
-        match self.stage {
-            Stage::Empty => Err(Fault::NoStandingLevel),
-            Stage::Standing => Err(Fault::NoLevelInWork),
-            Stage::Working => {
-                if quad.0 >= self.quads {
-                    return Err(Fault::NoSuchNumber(quad.0));
-                }
-                let quads = self.quads as usize;
-                let points = self.points as usize;
-                let q = quad.0 as usize;
-                let left = self.words.left_after(quads, points, q, self.left);
-                self.words.run_quad(quads, points, q);
-                self.left = left;
-                Ok(left)
-            }
+        let (size, left) = self.in_work()?;
+        if quad.0 >= size.quads {
+            return Err(Fault::NoSuchNumber(quad.0));
         }
+        let left = self.words.left_after(size, quad.0 as usize, left);
+        self.words.run_quad(size, quad);
+        self.stage = Stage::Working { size, left };
+        Ok(left)
     }
 
     // Runs the task of a point, again if asked, and answers how many tasks have yet to run.
@@ -108,22 +119,15 @@ impl<'a> Bench<'a> {
         ensures call { Called (state self.old) (point_call point.0) (state self.new) (told result) }
         ensures count { Counts result (left (state self.new)) }
     {
-        match self.stage {
-            Stage::Empty => Err(Fault::NoStandingLevel),
-            Stage::Standing => Err(Fault::NoLevelInWork),
-            Stage::Working => {
-                if point.0 >= self.points {
-                    return Err(Fault::NoSuchNumber(point.0));
-                }
-                let quads = self.quads as usize;
-                let points = self.points as usize;
-                let v = point.0 as usize;
-                let left = self.words.left_after(quads, points, quads + v, self.left);
-                self.words.run_point(quads, points, v);
-                self.left = left;
-                Ok(left)
-            }
+        let (size, left) = self.in_work()?;
+        if point.0 >= size.points {
+            return Err(Fault::NoSuchNumber(point.0));
         }
+        let task = size.quads as usize + point.0 as usize;
+        let left = self.words.left_after(size, task, left);
+        self.words.run_point(size, point);
+        self.stage = Stage::Working { size, left };
+        Ok(left)
     }
 
     // Makes the level in work the standing one, once every task has run.
@@ -132,40 +136,16 @@ impl<'a> Bench<'a> {
         ensures slip { ComesBack result slip.mark }
         ensures unspent { IfErr result (λ d. d.slip.spent ≡ slip.spent) }
     {
-        match self.stage {
-            Stage::Empty => Err(Declined {
-                fault: Fault::NoStandingLevel,
+        let (size, slip) = self.closes(slip)?;
+        if let Some(task) = self.words.lowest(size) {
+            return Err(Declined {
+                fault: Fault::TaskNotRun(Task(task as u32)),
                 slip,
-            }),
-            Stage::Standing => Err(Declined {
-                fault: Fault::NoLevelInWork,
-                slip,
-            }),
-            Stage::Working => {
-                if slip.mark() != self.mark {
-                    return Err(Declined {
-                        fault: Fault::OtherSlip,
-                        slip,
-                    });
-                }
-                let quads = self.quads as usize;
-                let points = self.points as usize;
-                let lowest = self.words.lowest(quads, points);
-                if lowest < quads + points {
-                    return Err(Declined {
-                        fault: Fault::TaskNotRun(Task(lowest as u32)),
-                        slip,
-                    });
-                }
-                slip.spend();
-                self.words
-                    .bring_down(8 * quads + points, 35 * quads + points);
-                self.points = self.points + 3 * self.quads;
-                self.quads = 4 * self.quads;
-                self.left = 0;
-                self.stage = Stage::Standing;
-                Ok(())
-            }
+            });
         }
+        slip.spend();
+        self.words.bring_down(size);
+        self.stage = Stage::Standing(size.refined());
+        Ok(())
     }
 }

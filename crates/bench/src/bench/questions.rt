@@ -12,22 +12,17 @@ impl<'a> Bench<'a> {
     pub fn tables(&self, level: Level) -> Result<Tables<'_>, Fault>
         ensures { Lends (state self.now) level result }
     {
-        let quads = self.quads as usize;
-        let points = self.points as usize;
         match level {
             Level::Standing => match self.stage {
                 Stage::Empty => Err(Fault::NoStandingLevel),
-                Stage::Standing => Ok(self.words.tables(0, quads, points)),
-                Stage::Working => Ok(self.words.tables(0, quads, points)),
+                Stage::Standing(size) | Stage::Working { size, .. } => {
+                    Ok(self.words.tables(0, size))
+                }
             },
-            Level::InWork => match self.stage {
-                Stage::Empty => Err(Fault::NoStandingLevel),
-                Stage::Standing => Err(Fault::NoLevelInWork),
-                Stage::Working => Ok(
-                    self.words
-                        .tables(8 * quads + points, 4 * quads, points + 3 * quads),
-                ),
-            },
+            Level::InWork => {
+                let (size, _) = self.in_work()?;
+                Ok(self.words.tables(size.words(), size.refined()))
+            }
         }
     }
 }

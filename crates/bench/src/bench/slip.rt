@@ -5,7 +5,8 @@ use mesh::fault::Fault;
 // The right to finish or withdraw the level in work. It bears the mark number of its bench.
 pub struct Slip {
     mark: u32,
-    // whether it has been spent: of no slip that is handed out is it so
+    // whether it has been spent: of no slip that is handed out is it so.
+    // A field, since a drop that nobody could ever call is refused by the gate
     spent: bool,
 }
 

@@ -6,7 +6,6 @@ ghost use Rattle.bench.specs.Model.{state, told_slip, ComesBack};
 use super::Bench;
 use super::slip::{Declined, Slip};
 use crate::stage::Stage;
-use mesh::fault::Fault;
 
 impl<'a> Bench<'a> {
     // Drops the level in work.
@@ -15,27 +14,9 @@ impl<'a> Bench<'a> {
         ensures slip { ComesBack result slip.mark }
         ensures unspent { IfErr result (λ d. d.slip.spent ≡ slip.spent) }
     {
-        match self.stage {
-            Stage::Empty => Err(Declined {
-                fault: Fault::NoStandingLevel,
-                slip,
-            }),
-            Stage::Standing => Err(Declined {
-                fault: Fault::NoLevelInWork,
-                slip,
-            }),
-            Stage::Working => {
-                if slip.mark() != self.mark {
-                    return Err(Declined {
-                        fault: Fault::OtherSlip,
-                        slip,
-                    });
-                }
-                slip.spend();
-                self.left = 0;
-                self.stage = Stage::Standing;
-                Ok(())
-            }
-        }
+        let (size, slip) = self.closes(slip)?;
+        slip.spend();
+        self.stage = Stage::Standing(size);
+        Ok(())
     }
 }

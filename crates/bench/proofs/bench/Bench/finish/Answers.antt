@@ -1,45 +1,30 @@
-use Rattle.std.proofs.Common.{sym, refl, ◌∙◌, arith}
-use Rattle.chain.specs.Calls.{finish as finish_call}
-use Rattle.bench.specs.declared.stage.Stage.TheVariants.{Empty, Standing}
-use Rattle.bench.proofs.Steps.{refused_at, finish_other, not_run, finish_carried}
-use Rattle.bench.proofs.Keeps.{working_room, finish_keeps}
+use Rattle.std.proofs.Common.{sym, ◌∙◌}
+use Rattle.std.proofs.lemmas.Result.{err_from_is_err_and}
+use Rattle.bench.specs.Model.{state}
+use Rattle.bench.proofs.Steps.{not_closed, not_run, finish_carried}
+use Rattle.bench.proofs.Tasks.{one_left, none_left}
+use Rattle.bench.proofs.Keeps.{finish_keeps}
 use Rattle.bench.proofs.bench.Bench.finish.Goals as goal
 
-pub returns-in-Empty : goal.returns-in-Empty
-returns-in-Empty c =
-    let b = c.args.self.now in
-    record { call = refused_at b.mark b.quads b.points b.words.cells.now b.stage Empty c.in-Empty.is (finish_call c.args.slip.mark) 12 0 refl; slip = refl; unspent = refl }
+pub returns-in_err-size-clause-call : goal.returns-in_err-size-clause-call
+returns-in_err-size-clause-call c =
+    let p = err_from_is_err_and c.from_residual.result c.from_residual.ensures.1 in
+    rw (p.1, p.2) (not_closed (state c.args.self.now) c.args.slip.mark _ _ c.in_err-size.ensures.call)
 
-pub returns-in-Standing : goal.returns-in-Standing
-returns-in-Standing c =
-    let b = c.args.self.now in
-    record { call = refused_at b.mark b.quads b.points b.words.cells.now b.stage Standing c.in-Standing.is (finish_call c.args.slip.mark) 15 0 refl; slip = refl; unspent = refl }
-
-pub returns-then-mark-self : goal.returns-then-mark-self
-returns-then-mark-self c =
-    let b = c.args.self.now in
-    record { call = finish_other b.mark b.quads b.points b.words.cells.now b.stage c.args.slip.mark c.in-Working.is (λ e. c.if-mark-self.true (c.mark.ensures ∙ e)); slip = refl; unspent = refl }
-
-pub returns-then-lowest-quads : goal.returns-then-lowest-quads
-returns-then-lowest-quads c =
-    let b = c.args.self.now in
-    record {
-      call = not_run b.mark b.quads b.points b.words.cells.now b.stage c.args.slip.mark _ c.in-Working.is (sym c.mark.ensures ∙ c.if-mark-self.false) c.lowest-lowest.ensures c.if-lowest-quads.true;
-      slip = refl;
-      unspent = refl;
-    }
+pub returns-in-Some-clause-call : goal.returns-in-Some-clause-call
+returns-in-Some-clause-call c =
+    let h = c.in_ok-size.ensures.call in
+    let a = h.1.1 in
+    let n = one_left _ _ _ a.ready.room c.in-Some.task (sym c.lowest.ensures ∙ c.in-Some.is) in
+    not_run _ _ _ _ _ a c.args.slip.mark c.in-Some.task h.0 n.0 n.1
 
 pub invariant_of-self : goal.invariant_of-self
 invariant_of-self c =
-    let b = c.args.self.now in
-    finish_keeps b.mark b.quads b.points b.words.cells.now b.stage _ c.in-Working.is b.few b.room b.lawful b.written (omega (arith, c.lowest-lowest.ensures)) c.bring_down.ensures
+    let a = c.in_ok-size.ensures.call.1.1 in
+    finish_keeps _ _ _ _ _ a c.refined.result _ c.refined.ensures.quads_are c.refined.ensures.points_are (none_left _ _ _ a.ready.room (λ k e. c.in_default.not-Some k (c.lowest.ensures ∙ e))) c.bring_down.ensures
 
-pub returns-else-lowest-quads : goal.returns-else-lowest-quads
-returns-else-lowest-quads c =
-    let b = c.args.self.now in
-    let room = working_room b.mark b.quads b.points b.words.cells.now b.stage c.in-Working.is b.room in
-    record {
-      call = finish_carried b.mark b.quads b.points b.words.cells.now b.stage c.args.slip.mark _ c.in-Working.is (sym c.mark.ensures ∙ c.if-mark-self.false) (omega (arith, c.lowest-lowest.ensures)) room c.bring_down.ensures;
-      slip = tt;
-      unspent = tt;
-    }
+pub returns-clause-call : goal.returns-clause-call
+returns-clause-call c =
+    let h = c.in_ok-size.ensures.call in
+    let a = h.1.1 in
+    finish_carried _ _ _ _ _ a c.args.slip.mark c.refined.result _ h.0 c.refined.ensures.quads_are c.refined.ensures.points_are (none_left _ _ _ a.ready.room (λ k e. c.in_default.not-Some k (c.lowest.ensures ∙ e))) c.bring_down.ensures

@@ -1,6 +1,6 @@
 use Rattle.std.proofs.Common.{refl}
 use Rattle.refinement.specs.Tasks.{put}
-use Rattle.bench.proofs.words.Words.put_marks.Goals as goal
+use Rattle.bench.proofs.words.QuadTask.put_friends.Goals as goal
 
 pub returns : goal.returns
 unfolding put

@@ -1,6 +1,0 @@
-use Rattle.std.proofs.Common.{◌+◌, ◌*◌, sym, arith}
-use Rattle.layout.proofs.Blocks.{getD_block}
-use Rattle.bench.proofs.words.Words.mark.Goals as goal
-
-pub returns : goal.returns
-returns c = sym (getD_block c.args.self.now.cells.now (c.args.base + 6 * c.args.quads) (2 * c.args.quads) c.args.off (omega arith))
