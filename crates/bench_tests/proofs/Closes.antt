@@ -4,8 +4,7 @@ use Rattle.mesh.specs.Refusals.{Verdict, fine, declined}
 use Rattle.mesh.specs.declared.number.Quad.{Quad}
 use Rattle.chain.specs.Calls.{Call, begin, quad, State, refusal, carry, either, next}
 use Rattle.chain.specs.Clauses.{Called}
-use Rattle.requests.specs.Sessions.{unless}
-use Rattle.requests.specs.declared.request.Request.TheVariants.{RunQuad}
+use Rattle.requests.specs.Sessions.{to_run_quad, unless}
 use Rattle.requests.proofs.Fits.{Fits, opens, fits_plays}
 
 -- a call that is refused leaves the bench as it was
@@ -18,4 +17,4 @@ opened s t m h k =
     subst (λ (x : State). Fits x (Some m)) (sym h.leaves) (subst (λ n. Fits (next s begin) (Some n)) (sym k) f)
 
 pub worked : (s t : State) (m : ℕ) (q : Quad) (v : Verdict) → Called s (quad q.0) t v → Fits s (Some m) → Fits t (Some m)
-worked s t m q v h f = subst (λ (x : State). Fits x (Some m)) (sym h.leaves) (fits_plays [] (record { bench = s; held = Some m }) (RunQuad q ∷ []) f)
+worked s t m q v h f = subst (λ (x : State). Fits x (Some m)) (sym h.leaves) (fits_plays (record { bench = s; held = Some m }) (to_run_quad q.0 ∷ []) f)

@@ -18,7 +18,7 @@ fn begun(rt: &HostRuntime, tables: &Tables<'_>, words: usize) -> Result<u8, Fail
         return Ok(fault.number());
     }
     let mut answers = [Answer::Nothing];
-    work(&mut bench, &[], &[Request::Begin], &mut answers);
+    work(&mut bench, &[Request::Begin], &mut answers);
     match answers[0] {
         Answer::Refused(fault) => Ok(fault.number()),
         Answer::Done => Ok(0),

@@ -25,7 +25,7 @@ const PILLOW: Tables<'static> = Tables {
 };
 
 // A begin, the tasks by number, and a finish.
-fn forward(alloc: Global, quads: u32, points: u32) -> Result<Vec<Request>, Fail> {
+fn forward(alloc: Global, quads: u32, points: u32) -> Result<Vec<Request<'static>>, Fail> {
     let mut all = Vec::new(alloc);
     all.push(Request::Begin)?;
     for q in 0..quads {
@@ -39,7 +39,7 @@ fn forward(alloc: Global, quads: u32, points: u32) -> Result<Vec<Request>, Fail>
 }
 
 // A begin, the tasks from the last to the first with every third again, and a finish; a finish that comes too early is refused.
-fn backward(alloc: Global, quads: u32, points: u32) -> Result<Vec<Request>, Fail> {
+fn backward(alloc: Global, quads: u32, points: u32) -> Result<Vec<Request<'static>>, Fail> {
     let mut all = Vec::new(alloc);
     all.push(Request::Begin)?;
     for v in (0..points).rev() {
@@ -63,7 +63,7 @@ fn refined(alloc: Global, bench: &mut Bench<'_>, back: bool) -> Result<(u32, u32
         forward(alloc, quads, points)?
     };
     let mut answers = vec![in alloc; Answer::Nothing; requests.len()]?;
-    work(bench, &[], requests.as_slice(), answers.as_mut_slice());
+    work(bench, requests.as_slice(), answers.as_mut_slice());
     Ok(bench.counts(Level::Standing).unwrap_or((0, 0)))
 }
 

@@ -19,17 +19,15 @@ mod tests {
     use mesh::number::{Point, Quad};
     use questions::Questions;
     use requests::perform::work;
-    use requests::request::{Answer, Extent, Request};
+    use requests::request::{Answer, Request};
+    use tables::lent::Tables;
 
-    // Two quads back to back: corners, friends, marks, starts.
-    const STORE: [u32; 20] = [0, 1, 2, 3, 2, 1, 0, 3, 2, 3, 0, 1, 0, 0, 0, 0, 0, 1, 2, 3];
-
-    const PILLOW: Request = Request::Load(Extent {
-        at: 0,
-        corners: 8,
-        friends: 4,
-        marks: 4,
-        starts: 4,
+    // Two quads back to back.
+    const PILLOW: Request<'static> = Request::Load(Tables {
+        corners: &[0, 1, 2, 3, 2, 1, 0, 3],
+        friends: &[2, 3, 0, 1],
+        marks: &[0; 4],
+        starts: &[0, 1, 2, 3],
     });
 
     // An answer as numbers: the refusal and its place, or 0 and the tasks left, 99 for a call that is done, 98 for none.
@@ -47,11 +45,11 @@ mod tests {
         let mut answers = [Answer::Nothing; 1];
         let mut few = [0; 19];
         let mut bench = Bench::new(&mut few, 7);
-        work(&mut bench, &STORE, &[PILLOW], &mut answers);
+        work(&mut bench, &[PILLOW], &mut answers);
         assert_eq!(rt; shown(answers[0]), (14, 0));
         let mut enough = [0; 20];
         let mut bench = Bench::new(&mut enough, 7);
-        work(&mut bench, &STORE, &[PILLOW], &mut answers);
+        work(&mut bench, &[PILLOW], &mut answers);
         assert_eq!(rt; shown(answers[0]), (0, 99));
         assert_eq!(rt; bench.counts(Level::Standing).unwrap_or((0, 0)), (2, 4));
     }
@@ -61,11 +59,11 @@ mod tests {
         let mut answers = [Answer::Nothing; 2];
         let mut few = [0; 99];
         let mut bench = Bench::new(&mut few, 7);
-        work(&mut bench, &STORE, &[PILLOW, Request::Begin], &mut answers);
+        work(&mut bench, &[PILLOW, Request::Begin], &mut answers);
         assert_eq!(rt; shown(answers[1]), (14, 0));
         let mut enough = [0; 100];
         let mut bench = Bench::new(&mut enough, 7);
-        work(&mut bench, &STORE, &[PILLOW, Request::Begin], &mut answers);
+        work(&mut bench, &[PILLOW, Request::Begin], &mut answers);
         assert_eq!(rt; shown(answers[1]), (0, 99));
     }
 
@@ -88,7 +86,7 @@ mod tests {
             Request::Finish,
             Request::Withdraw,
         ];
-        work(&mut bench, &STORE, &requests, &mut answers);
+        work(&mut bench, &requests, &mut answers);
         assert_eq!(rt; shown(answers[0]), (12, 0));
         assert_eq!(rt; shown(answers[1]), (12, 0));
         assert_eq!(rt; shown(answers[3]), (15, 0));
@@ -102,11 +100,11 @@ mod tests {
     }
 
     // The words that these requests leave of 100.
-    fn left_by(requests: &[Request]) -> [u32; 100] {
+    fn left_by(requests: &[Request<'_>]) -> [u32; 100] {
         let mut answers = [Answer::Nothing; 12];
         let mut words = [0; 100];
         let mut bench = Bench::new(&mut words, 7);
-        work(&mut bench, &STORE, requests, &mut answers);
+        work(&mut bench, requests, &mut answers);
         words
     }
 

@@ -4,8 +4,8 @@
 ghost use Rattle.chain.specs.Calls.{made};
 ghost use Rattle.chain.specs.Clauses.{run_on};
 ghost use Rattle.exported.specs.Benches.{copied};
-ghost use Rattle.exported_work.specs.Works.{numbers_of, over, requests_of};
-ghost use Rattle.requests.specs.Sessions.{all_calls, replies};
+ghost use Rattle.exported_work.specs.Works.{numbers_of, requests_of};
+ghost use Rattle.requests.specs.Sessions.{all_calls, over, replies};
 ghost use Rattle.std.specs.Prelude.{◌≡◌, None as nothing, length, map};
 
 // Makes a bench over these words and asks it row by row, as many rows as there is room for answers; a slip that is still held then is withdrawn.
@@ -19,8 +19,8 @@ pub extern "C" fn mesh_work(
     answers: &mut [[u32; 3]],
     out: &mut [u32],
 )
-    ensures gave { answers.new ≡ over (map numbers_of (replies store.now (record { bench = made (length words.old) mark; held = nothing }) (requests_of (length answers.old) rows.now))) answers.old }
-    ensures level { out.new ≡ copied (run_on (made (length words.old) mark) (all_calls store.now (made (length words.old) mark) (requests_of (length answers.old) rows.now))).standing out.old }
+    ensures gave { answers.new ≡ over (map numbers_of (replies (record { bench = made (length words.old) mark; held = nothing }) (requests_of store.now (length answers.old) rows.now))) answers.old }
+    ensures level { out.new ≡ copied (run_on (made (length words.old) mark) (all_calls (made (length words.old) mark) (requests_of store.now (length answers.old) rows.now))).standing out.old }
 {
     exported_work::mesh_work(words, mark, store, rows, answers, out);
 }

@@ -3,7 +3,7 @@ ghost use Rattle.std.specs.Prelude.{◌≡◌, ℕ, [], map, length, take, None 
 ghost use Rattle.bench.specs.Model.{state};
 ghost use Rattle.chain.specs.Clauses.{Made, on_top, run_on};
 ghost use Rattle.chain.specs.History.{carried_out};
-ghost use Rattle.requests.specs.Sessions.{all_calls, replies, told_reply};
+ghost use Rattle.requests.specs.Sessions.{all_calls, asked, beside, first_asked, replies, told_reply};
 ghost use Rattle.promise.specs.Whole.{KeepsAllThrough, Kept};
 
 use bench::bench::Bench;
@@ -17,14 +17,13 @@ use requests::request::{Answer, Request};
 // and so from the making of the bench on.
 pub fn work_and_keep<K: ValueKind, C: CornerKind>(
     bench: &mut Bench<'_>,
-    store: &[u32],
-    requests: &[Request],
+    requests: &[Request<'_>],
     answers: &mut [Answer],
 )
-    ensures keeps { KeepsAllThrough K.ValueKind.lies K.ValueKind.blended C.CornerKind.middle (state bench.old) (all_calls store.now (state bench.old) (take (length answers.old) requests.now)) (state bench.new) }
-    ensures made { (words mark : ℕ) → Made words mark (state bench.old) → Kept K.ValueKind.lies K.ValueKind.blended C.CornerKind.middle words mark (carried_out words mark (on_top (all_calls store.now (state bench.old) (take (length answers.old) requests.now)) [])) (state bench.new) }
-    ensures after { state bench.new ≡ run_on (state bench.old) (all_calls store.now (state bench.old) (take (length answers.old) requests.now)) }
-    ensures gave { map told_reply (take (length requests.now) answers.new) ≡ replies store.now (record { bench = state bench.entry.now; held = nothing }) (take (length answers.old) requests.now) }
+    ensures keeps { KeepsAllThrough K.ValueKind.lies K.ValueKind.blended C.CornerKind.middle (state bench.old) (all_calls (state bench.old) (first_asked asked (length answers.old) requests.now)) (state bench.new) }
+    ensures made { (words mark : ℕ) → Made words mark (state bench.old) → Kept K.ValueKind.lies K.ValueKind.blended C.CornerKind.middle words mark (carried_out words mark (on_top (all_calls (state bench.old) (first_asked asked (length answers.old) requests.now)) [])) (state bench.new) }
+    ensures after { state bench.new ≡ run_on (state bench.old) (all_calls (state bench.old) (first_asked asked (length answers.old) requests.now)) }
+    ensures gave { map told_reply (take (length requests.now) answers.new) ≡ replies (beside bench.entry.now nothing) (first_asked asked (length answers.old) requests.now) }
 {
-    work(bench, store, requests, answers);
+    work(bench, requests, answers);
 }

@@ -5,10 +5,8 @@ use Rattle.mesh.specs.Mesh.{Mesh}
 use Rattle.mesh.specs.Causes.{judge}
 use Rattle.mesh.specs.Refusals.{Verdict, fine, declined}
 use Rattle.refinement.specs.Tasks.{Task, quad_task, point_task}
-use Rattle.chain.specs.Calls.{begin, quad, point, finish, withdraw, Work, State, cause, and_next, missing, opened, worked, refusal, carry, either}
-use Rattle.requests.specs.Sessions.{Session, held_then, load_from, play, plays, unless}
-use Rattle.requests.specs.declared.request.Request.{Request}
-use Rattle.requests.specs.declared.request.Request.TheVariants.{Load, Begin, RunQuad, RunPoint, Finish, Withdraw}
+use Rattle.chain.specs.Calls.{load, begin, quad, point, finish, withdraw, Work, State, cause, and_next, missing, opened, worked, refusal, carry, either}
+use Rattle.requests.specs.Sessions.{Asked, to_load, to_begin, to_run_quad, to_run_point, to_finish, to_withdraw, Session, held_then, play, plays, unless}
 
 abbrev pub Fits : State → Option ℕ → Type 0
 Fits s None = Unit {0}
@@ -51,21 +49,20 @@ opens s fine e =
     let there = (clear 12 0 (missing s.standing) _ (clear 11 0 (not (missing s.work)) _ e).1).0 in
     (refl, there, opened_there s.standing there)
 
-module _ (store : List ℕ) where
-  fits_play : (s : State) (h : Option ℕ) (r : Request) → Fits s h → Fits (play store (record { bench = s; held = h }) r).bench (held_then s h r)
-  fits_play s None (Load e) f = tt
-  fits_play s (Some m) (Load e) f = load_stays s (carry s (load_from store e)) m (judge _) _ (missing s.work) f.2 f
-  fits_play s None Begin f = opens s (refusal s begin) refl
-  fits_play s (Some m) Begin f = f
-  fits_play s None (RunQuad q) f = tt
-  fits_play s (Some m) (RunQuad q) f = stays s (carry s (quad q.0)) m (refusal s (quad q.0)) (f.0, f.1, worked_there s.standing (quad_task q.0) s.work f.1 f.2) f
-  fits_play s None (RunPoint v) f = tt
-  fits_play s (Some m) (RunPoint v) f = stays s (carry s (point v.0)) m (refusal s (point v.0)) (f.0, f.1, worked_there s.standing (point_task v.0) s.work f.1 f.2) f
-  fits_play s None Finish f = tt
-  fits_play s (Some m) Finish f = spent s (carry s (finish m)) m (refusal s (finish m)) f
-  fits_play s None Withdraw f = tt
-  fits_play s (Some m) Withdraw f = spent s (carry s (withdraw m)) m (refusal s (withdraw m)) f
+fits_play : (s : State) (h : Option ℕ) (a : Asked) → Fits s h → Fits (play (record { bench = s; held = h }) a).bench (held_then s h a)
+fits_play s None (to_load cs fs ms ss) f = tt
+fits_play s (Some m) (to_load cs fs ms ss) f = load_stays s (carry s (load cs fs ms ss)) m (judge _) _ (missing s.work) f.2 f
+fits_play s None to_begin f = opens s (refusal s begin) refl
+fits_play s (Some m) to_begin f = f
+fits_play s None (to_run_quad q) f = tt
+fits_play s (Some m) (to_run_quad q) f = stays s (carry s (quad q)) m (refusal s (quad q)) (f.0, f.1, worked_there s.standing (quad_task q) s.work f.1 f.2) f
+fits_play s None (to_run_point v) f = tt
+fits_play s (Some m) (to_run_point v) f = stays s (carry s (point v)) m (refusal s (point v)) (f.0, f.1, worked_there s.standing (point_task v) s.work f.1 f.2) f
+fits_play s None to_finish f = tt
+fits_play s (Some m) to_finish f = spent s (carry s (finish m)) m (refusal s (finish m)) f
+fits_play s None to_withdraw f = tt
+fits_play s (Some m) to_withdraw f = spent s (carry s (withdraw m)) m (refusal s (withdraw m)) f
 
-  pub fits_plays : (t : Session) (rs : List Request) → Fits t.bench t.held → Fits (plays store t rs).bench (plays store t rs).held
-  fits_plays t [] f = f
-  fits_plays t (r ∷ rs) f = fits_plays (play store t r) rs (fits_play t.bench t.held r f)
+pub fits_plays : (t : Session) (rs : List Asked) → Fits t.bench t.held → Fits (plays t rs).bench (plays t rs).held
+fits_plays t [] f = f
+fits_plays t (a ∷ rs) f = fits_plays (play t a) rs (fits_play t.bench t.held a f)

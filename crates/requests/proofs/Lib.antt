@@ -1,2 +1,3 @@
 pub mod Through
 pub mod Fits
+pub mod Rows
