@@ -16,7 +16,7 @@ use Rattle.refinement.proofs.OneProof.{lawful_shown}
 use Rattle.refinement.proofs.Order.{refined}
 use Rattle.tables.specs.Lent.{mesh}
 use Rattle.tables.specs.declared.lent.Tables.{Tables}
-use Rattle.chain.specs.Calls.{Work}
+use Rattle.chain.specs.Calls.{Work, State}
 use Rattle.layout.specs.Layout.{block, level_at, standing_in, work_in, Written}
 use Rattle.layout.proofs.Blocks.{length_block}
 use Rattle.bench.specs.State.{bench_at, AtWork}
