@@ -3,7 +3,9 @@
 
 use lines::{Counts, TablesMut, read, read_counts};
 use mesh::fault::Fault;
+use std::alloc::AllocError;
 use std::io::Read;
+use tally::Tally;
 
 mod tally;
 
@@ -25,16 +27,16 @@ fn refuse(rt: &HostRuntime, fault: Fault) -> anyhow::Result<()> {
 }
 
 // What a text of these counts and marks holds.
-fn report(rt: &HostRuntime, counts: Counts, marks: &[u32]) -> anyhow::Result<()> {
-    let quads = u64::from(counts.quads);
-    let points = u64::from(counts.points);
-    let lines = 1 + quads + points;
-    let less = points as i64 - quads as i64;
-    let tally = tally::count(marks);
-    let smooth = tally.smooth;
-    let semi_sharp = tally.semi_sharp;
-    let infinite = tally.infinite;
-    let no_mark = tally.no_mark;
+fn report(rt: &HostRuntime, counts: Counts, tally: Tally) -> anyhow::Result<()> {
+    let Counts { quads, points } = counts;
+    let lines = 1 + u64::from(quads) + u64::from(points);
+    let less = i64::from(points) - i64::from(quads);
+    let Tally {
+        smooth,
+        semi_sharp,
+        infinite,
+        no_mark,
+    } = tally;
     println!(rt; "A mesh text of {lines} lines.")?;
     println!(rt; "It has {quads} quads and {points} points; points less quads: {less}.")?;
     println!(rt;
@@ -47,14 +49,29 @@ fn report(rt: &HostRuntime, counts: Counts, marks: &[u32]) -> anyhow::Result<()>
     Ok(())
 }
 
-fn inspect(rt: &HostRuntime, text: &[u8]) -> anyhow::Result<()> {
-    if text.len() as u64 > LONGEST {
-        return refuse(rt, Fault::TooShort);
+// Why nothing is reported.
+enum Stop {
+    Refused(Fault),
+    NoMemory(AllocError),
+}
+
+impl From<Fault> for Stop {
+    fn from(fault: Fault) -> Self {
+        Stop::Refused(fault)
     }
-    let stated = match read_counts(text) {
-        Ok(counts) => counts,
-        Err(fault) => return refuse(rt, fault),
-    };
+}
+
+impl From<AllocError> for Stop {
+    fn from(error: AllocError) -> Self {
+        Stop::NoMemory(error)
+    }
+}
+
+fn inspect(rt: &HostRuntime, text: &[u8]) -> Result<(Counts, Tally), Stop> {
+    if text.len() as u64 > LONGEST {
+        return Err(Stop::Refused(Fault::TooShort));
+    }
+    let stated = read_counts(text)?;
     let quads = stated.quads.min(QUADS) as usize;
     let points = stated.points.min(POINTS) as usize;
     let heap = rt.alloc();
@@ -68,14 +85,16 @@ fn inspect(rt: &HostRuntime, text: &[u8]) -> anyhow::Result<()> {
         marks: &mut marks,
         starts: &mut starts,
     };
-    match read(text, &mut tables) {
-        Ok(counts) => report(rt, counts, &marks),
-        Err(fault) => refuse(rt, fault),
-    }
+    let counts = read(text, &mut tables)?;
+    Ok((counts, tally::count(&marks)))
 }
 
 fn main(rt: HostRuntime) -> anyhow::Result<()> {
     let mut text = Vec::new(rt.alloc());
     rt.stdin().take(LONGEST + 1).read_to_end(&mut text)?;
-    inspect(&rt, text.as_slice())
+    match inspect(&rt, &text) {
+        Ok((counts, tally)) => report(&rt, counts, tally),
+        Err(Stop::Refused(fault)) => refuse(&rt, fault),
+        Err(Stop::NoMemory(error)) => Err(error.into()),
+    }
 }

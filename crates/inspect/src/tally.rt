@@ -4,7 +4,7 @@ ghost use Rattle.inspect.specs.Marks.{Adds, Tallies};
 
 use mesh::mark::Mark;
 
-#[derive(Clone, Copy)]
+#[derive(Clone, Copy, Default)]
 pub struct Tally {
     pub smooth: usize,
     pub semi_sharp: usize,
@@ -12,36 +12,31 @@ pub struct Tally {
     pub no_mark: usize,
 }
 
-// One word more.
-fn add(tally: Tally, word: u32) -> Tally
-    requires smooth { tally.smooth < 18446744073709551615 }
-    requires semi_sharp { tally.semi_sharp < 18446744073709551615 }
-    requires infinite { tally.infinite < 18446744073709551615 }
-    requires no_mark { tally.no_mark < 18446744073709551615 }
-    ensures { Adds word tally result }
-{
-    let mut more = tally;
-    match Mark::try_from(word) {
-        Ok(Mark::Smooth) => more.smooth += 1,
-        Ok(Mark::SemiSharp(_)) => more.semi_sharp += 1,
-        Ok(Mark::Infinite) => more.infinite += 1,
-        Err(_) => more.no_mark += 1,
+impl Tally {
+    // One word more.
+    fn add(&mut self, word: u32)
+        requires smooth { self.old.smooth < 18446744073709551615 }
+        requires semi_sharp { self.old.semi_sharp < 18446744073709551615 }
+        requires infinite { self.old.infinite < 18446744073709551615 }
+        requires no_mark { self.old.no_mark < 18446744073709551615 }
+        ensures { Adds word self.old self.new }
+    {
+        match Mark::try_from(word) {
+            Ok(Mark::Smooth) => self.smooth += 1,
+            Ok(Mark::SemiSharp(_)) => self.semi_sharp += 1,
+            Ok(Mark::Infinite) => self.infinite += 1,
+            Err(_) => self.no_mark += 1,
+        }
     }
-    more
 }
 
 // Counts the mark words by what they stand for.
 pub fn count(words: &[u32]) -> Tally
     ensures { Tallies words.now result }
 {
-    let mut tally = Tally {
-        smooth: 0,
-        semi_sharp: 0,
-        infinite: 0,
-        no_mark: 0,
-    };
+    let mut tally = Tally::default();
     for word in words {
-        tally = add(tally, *word);
+        tally.add(*word);
     }
     tally
 }

@@ -1,6 +1,5 @@
-use Rattle.std.proofs.Common.{◌≡◌, refl, ap, ◌∙◌, subst}
+use Rattle.std.proofs.Common.{refl, ◌∙◌}
 use Rattle.std.proofs.lemmas.Result.{err_from_is_err_and}
-use Rattle.mesh.specs.Refusals.{number_of, place_of}
 use Rattle.refinement.specs.Tasks.{refine}
 use Rattle.bench.specs.Model.{state}
 use Rattle.step.proofs.Steps.{answer_same, too_long, not_long, refused_load, load_answered, text_after, refined_fine, refined_stands, written, impossible}

@@ -1,4 +1,4 @@
-use Rattle.std.proofs.Common.{◌≡◌, ℕ, ◌+◌, ◌<◌, ◌≤◌, Bool, List, length, get_or, take, sym, refl, ap, ◌∙◌, subst, arith}
+use Rattle.std.proofs.Common.{◌≡◌, ℕ, ◌+◌, ◌<◌, ◌≤◌, Bool, List, length, get_or, take, sym, ap, ◌∙◌, subst, arith, rules}
 use Rattle.std.proofs.lemmas.List.{length-take-le, take_all}
 use Rattle.inspect.specs.Marks.{how_many, one_if, is_smooth, is_semi_sharp, is_infinite, is_no_mark, Tallies}
 use Rattle.inspect.proofs.HowMany.{how_many_le, how_many_more}
@@ -6,13 +6,15 @@ use Rattle.inspect.proofs.tally.count.Goals as goal
 
 pub loop-word-init : goal.loop-word-init
 unfolding how_many
-loop-word-init c = record { smooth_are = refl; semi_sharp_are = refl; infinite_are = refl; no_marks_are = refl }
+loop-word-init c =
+    let d = c.default-tally.ensures in
+    record { smooth_are = search rules; semi_sharp_are = search rules; infinite_are = search rules; no_marks_are = search rules }
 
 few : (test : ℕ → Bool) (ws : List ℕ) (i n : ℕ) → i < length ws → n ≡ how_many test (take i ws) → n ≤ i
 few test ws i n h e = let l = length-take-le i ws (omega arith) in let m = how_many_le test (take i ws) in omega arith
 
-pub add-tally-requires : goal.add-tally-requires
-add-tally-requires c =
+pub add-requires : goal.add-requires
+add-requires c =
     let ws = c.args.words.now in
     let i = c.loop-word.word-index in
     let t = c.loop-word.invariant in
@@ -30,7 +32,7 @@ loop-word-preserved c =
     let ws = c.args.words.now in
     let i = c.loop-word.word-index in
     let t = c.loop-word.invariant in
-    let a = c.add-tally.ensures in
+    let a = c.add.ensures in
     record {
       smooth_are = more is_smooth ws i _ _ (omega arith) t.smooth_are a.smooth_adds;
       semi_sharp_are = more is_semi_sharp ws i _ _ (omega arith) t.semi_sharp_are a.semi_sharp_adds;

@@ -1,4 +1,4 @@
-use Rattle.std.proofs.Common.{◌≡◌, ℕ, ◌+◌, ◌∙◌, arith, rules}
+use Rattle.std.proofs.Common.{◌≡◌, ◌+◌, ◌∙◌, arith, rules}
 use Rattle.std.specs.List.{sum_by}
 use Rattle.lines.specs.Text.{width}
 use Rattle.text.proofs.Writes.{words_bytes, words_bytes_le}

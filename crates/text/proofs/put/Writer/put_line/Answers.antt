@@ -1,6 +1,5 @@
-use Rattle.std.proofs.Common.{◌≡◌, ℕ, List, [], ◌∷◌, get_or, sym, ap, subst, arith}
+use Rattle.std.proofs.Common.{ℕ, List, [], ◌∷◌, get_or, ap, subst, arith}
 use Rattle.lines.specs.Kinds.{first_digit, second_digit}
-use Rattle.lines.specs.Text.{words_text}
 use Rattle.text.specs.Put.{Wrote}
 use Rattle.text.proofs.Writes.{length_line, line_wrote, wrote_room}
 use Rattle.text.proofs.put.Writer.put_line.Goals as goal

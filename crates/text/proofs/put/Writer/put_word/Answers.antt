@@ -1,4 +1,4 @@
-use Rattle.std.proofs.Common.{ℕ, [], ◌∷◌, subst, sym}
+use Rattle.std.proofs.Common.{ℕ, [], ◌∷◌, subst}
 use Rattle.lines.specs.Text.{digits, word_text}
 use Rattle.text.specs.Put.{Wrote}
 use Rattle.text.proofs.Writes.{wrote_more}
