@@ -18,9 +18,6 @@ returns-in_err-rows g c =
       written = refl;
     })
 
-pub loop-q-init : goal.loop-q-init
-loop-q-init g c = λ k l. absurd (omega arith)
-
 pub put_quad-requires : goal.put_quad-requires
 put_quad-requires g c =
     let a = accepted _ _ _ _ _ _ c.in_ok-rows.ensures.verdict in
