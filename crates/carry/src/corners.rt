@@ -1,7 +1,8 @@
 // Corner values of the next level: quad by quad, four rows to sixteen.
-ghost use Rattle.std.specs.Prelude.{◌≡◌, ℕ, ◌+◌, ◌*◌, ◌^◌, ◌<◌, ◌≤◌, map, length, MatchResult, slice_set};
+ghost use Rattle.std.specs.Prelude.{◌≡◌, ℕ, ◌+◌, ◌*◌, ◌<◌, ◌≤◌, map, length, MatchResult, slice_set};
 ghost use Rattle.mesh.specs.Refusals.{told};
 ghost use Rattle.carried.specs.Corners.{corners};
+ghost use Rattle.tables.specs.Lent.{mesh};
 ghost use Rattle.carry.specs.Corners.{Upto};
 ghost use Rattle.carry.specs.Rows.{made, refusal};
 
@@ -9,6 +10,7 @@ use crate::rows::{Rows, Sizes};
 use kinds::corner::CornerKind;
 use kinds::row::Rowed;
 use mesh::fault::Fault;
+use tables::lawful::LawfulTables;
 
 // Writes the four rows of a new quad, from its first corner on.
 fn put<C: CornerKind>(out: &mut [C::Row], first: usize, a: &C, b: &C, c: &C, d: &C)
@@ -42,16 +44,16 @@ fn put_quad<'r, C: CornerKind>(rows: &Rows<'r, C>, q: usize, out: &mut [C::Row])
     put(out, 16 * q + 12, &d, &da, &centre, &cd);
 }
 
-// Writes the corner values of the next level of so many quads.
-pub(crate) fn carry<C: CornerKind>(
-    quads: usize,
+// Writes the corner values of the next level of a lawful mesh.
+pub(crate) fn carry<'a, C: CornerKind>(
+    level: LawfulTables<'a>,
     rows: &[C::Row],
     out: &mut [C::Row],
 ) -> Result<(), Fault>
-    requires { quads ≤ 2 ^ 30 }
-    ensures verdict { told result ≡ refusal C.Rowed.verdict quads (4 * quads) (16 * quads) rows.now (length out.old) }
+    ensures verdict { told result ≡ refusal C.Rowed.verdict (mesh level.entry.tables).quads (4 * (mesh level.entry.tables).quads) (16 * (mesh level.entry.tables).quads) rows.now (length out.old) }
     ensures written { MatchResult result (λ _. out.new ≡ map C.Rowed.row (corners C.middle (made C.Rowed.verdict rows.now))) (λ _. out.new ≡ out.old) }
 {
+    let quads = level.tables.quads();
     let rows = Rows::<C>::accepted(
         rows,
         Sizes {

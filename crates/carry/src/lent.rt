@@ -24,8 +24,8 @@ pub fn corners<'a, C: CornerKind>(
     ensures verdict { told result ≡ corners_refusal C.Rowed.verdict (mesh tables.now) rows.now (length out.old) }
     ensures written { MatchResult result (λ _. out.new ≡ map C.Rowed.row (corners_of C.middle (made C.Rowed.verdict rows.now))) (λ _. out.new ≡ out.old) }
 {
-    tables.judge()?;
-    carry_corners::<C>(tables.quads(), rows, out)
+    let level = LawfulTables::judged(*tables)?;
+    carry_corners::<C>(level, rows, out)
 }
 
 // Writes the values of the next level: from the rows of the V that stand, the rows of V + 3F. A refusal writes nothing.

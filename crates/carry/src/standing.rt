@@ -30,8 +30,7 @@ pub fn values<'a, K: ValueKind>(
     ensures range { OnOk result (InEveryRange K.lies K.Rowed.verdict rows.now out.new) }
 {
     let standing = bench.tables(Level::Standing)?;
-    let level = LawfulTables { tables: standing };
-    carry_values::<K>(level, rows, out)
+    carry_values::<K>(LawfulTables { tables: standing }, rows, out)
 }
 
 // Writes the corner values of the next level: from the rows of the 4F that stand, the rows of 16F. Sides that agreed still agree.
@@ -46,5 +45,5 @@ pub fn corners<'a, C: CornerKind>(
     ensures seams { OnOk result (Of (state bench.now).standing (λ m. SeamsMet C.Rowed.verdict m rows.now out.new)) }
 {
     let tables = bench.tables(Level::Standing)?;
-    carry_corners::<C>(tables.quads(), rows, out)
+    carry_corners::<C>(LawfulTables { tables }, rows, out)
 }
