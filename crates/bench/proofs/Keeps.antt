@@ -14,10 +14,11 @@ use Rattle.refinement.proofs.Order.{any_order, work_goes_on}
 use Rattle.chain.proofs.Flags.{ran_none, ran_push, ran_all}
 use Rattle.layout.specs.Layout.{block, standing_in, work_in, laid, after_task, InRange, Written}
 use Rattle.layout.specs.Laws.{four_laid, LoadWrites}
+use Rattle.layout.proofs.Blocks.{length_block}
 use Rattle.layout.proofs.Laid.{begins_write, finishes_write, loads_write}
 use Rattle.layout.proofs.Writes.{tasks_write}
 use Rattle.chain.specs.Calls.{State}
-use Rattle.bench.specs.State.{bench_at, Few, Room, Stands, Works, Count, AtWork}
+use Rattle.bench.specs.State.{bench_at, Few, Room, Stands, Works, Count, Ready, AtWork}
 use Rattle.bench.proofs.Tasks.{first_left}
 use Rattle.bench.specs.declared.bench.Bench.{Bench}
 use Rattle.bench.specs.declared.stage.Size.{Size}
@@ -62,6 +63,9 @@ at_work mark n ws s st e kept =
       written = k.written;
       count = k.count;
     }
+
+pub ran_length : (s : Size) (ws : List ℕ) → Ready s ws → length (block ws (43 * s.quads + 2 * s.points) (s.quads + s.points)) ≡ s.quads + s.points
+ran_length s ws r = length_block ws (43 * s.quads + 2 * s.points) (s.quads + s.points) (omega arith)
 
 pub begin_keeps : (mark : ℕ) (ws vs : List ℕ) (s : Size) (st : Stage) → st ≡ Standing s → ∥ Stands st ws ∥₁ → 4 * s.quads ≤ most_quads → 44 * s.quads + 3 * s.points ≤ length ws →
     vs ≡ laid ws (8 * s.quads + s.points) (replicate (36 * s.quads + 2 * s.points) 0) → Kept (Working s (s.quads + s.points)) mark vs
