@@ -14,7 +14,6 @@ use Rattle.refinement.proofs.Totals.{least_is, least_fails, least_passes}
 use Rattle.tables.specs.Lent.{mesh}
 use Rattle.tables.specs.declared.lent.Tables.{Tables}
 use Rattle.layout.specs.Layout.{block, standing_in, laid, shifted, after_task}
-use Rattle.layout.proofs.Blocks.{length_block}
 use Rattle.bench.specs.Writes.{friends_by, marks_by, starts_by}
 
 shifted_from : (a b k : ℕ) (xs : List ℕ) → shifted a (from b k xs) ≡ from (a + b) k xs
