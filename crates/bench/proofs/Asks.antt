@@ -100,7 +100,7 @@ module _ (b : State) (ws : List ℕ) (t : Tables) where
   lent_work r s mark n a w f q p e =
       let room = w.ready.room in
       let few = w.few in
-      let g : mesh t ≡ level_at ws (8 * s.quads + s.points) (4 * s.quads) (s.points + 3 * s.quads) = e ∙ ap (λ x. level_at ws x r.quads r.points) f ∙ ap (λ x. level_at ws (8 * s.quads + s.points) x r.points) q ∙ ap (λ x. level_at ws (8 * s.quads + s.points) (4 * s.quads) x) p in
+      let g : mesh t ≡ level_at ws (8 * s.quads + s.points) (4 * s.quads) (s.points + 3 * s.quads) = cc in
       lent InWork (level_at ws (8 * s.quads + s.points) (4 * s.quads) (s.points + 3 * s.quads)) (ap (λ x. unseen x InWork) w.is) (ap (λ x. seen x InWork) w.is)
       g (counted_level ws (8 * s.quads + s.points) (4 * s.quads) (s.points + 3 * s.quads) (omega arith)) (omega arith) (let k = s.points_few in omega arith)
       (λ o l. written_mark (standing_in ws s.quads s.points) (work_in ws s.quads s.points) w.lawful w.written (omega arith) o (omega arith)) tt

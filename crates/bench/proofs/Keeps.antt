@@ -1,8 +1,8 @@
 -- That each call keeps what every bench keeps.
-use Rattle.std.proofs.Common.{◌≡◌, ℕ, zero, suc, ◌+◌, ◌*◌, ◌≤◌, cond, eqb, List, [], length, get_or, set, replicate, count_by, sym, refl, ap, ◌∙◌, subst, arith}
+use Rattle.std.proofs.Common.{◌≡◌, ℕ, ◌+◌, ◌*◌, ◌≤◌, cond, eqb, List, [], length, get_or, set, replicate, count_by, sym, refl, ap, ◌∙◌, subst, arith}
 use mathlib.Core.Logic.{∥∥₁_elim, ∥∥₁_map, ∥∥₁_map₂}
 use native.Mathlib.Bridge.{le_prop}
-use Rattle.std.proofs.lemmas.List.Sums.{sum_by-cons}
+use Rattle.std.proofs.lemmas.List.Folds.{sum_by-replicate}
 use Rattle.mesh.specs.Count.{least}
 use Rattle.mesh.specs.Causes.{judge, mesh_of}
 use Rattle.mesh.specs.Refusals.{fine}
@@ -14,10 +14,13 @@ use Rattle.refinement.proofs.Order.{any_order, work_goes_on}
 use Rattle.chain.proofs.Flags.{ran_none, ran_push, ran_all}
 use Rattle.layout.specs.Layout.{block, standing_in, work_in, laid, after_task, InRange, Written}
 use Rattle.layout.specs.Laws.{four_laid, LoadWrites}
+use Rattle.layout.proofs.Blocks.{length_block}
 use Rattle.layout.proofs.Laid.{begins_write, finishes_write, loads_write}
 use Rattle.layout.proofs.Writes.{tasks_write}
+use Rattle.tables.specs.Lent.{mesh}
+use Rattle.tables.specs.declared.lent.Tables.{Tables}
 use Rattle.chain.specs.Calls.{State}
-use Rattle.bench.specs.State.{bench_at, Few, Room, Stands, Works, Count, AtWork}
+use Rattle.bench.specs.State.{bench_at, Few, Room, Stands, Works, Count, Ready, AtWork}
 use Rattle.bench.proofs.Tasks.{first_left}
 use Rattle.bench.specs.declared.bench.Bench.{Bench}
 use Rattle.bench.specs.declared.stage.Size.{Size}
@@ -47,8 +50,7 @@ in_range m h = record {
 }
 
 count_zeros : (n : ℕ) → count_by (λ w. eqb w 0) (replicate n 0) ≡ n
-count_zeros zero = refl
-count_zeros (suc n) = let e : 1 + n ≡ suc n = omega arith in sum_by-cons (λ w. cond (eqb w 0) 1 0) 0 (replicate n 0) ∙ ap (λ x. 1 + x) (count_zeros n) ∙ e
+count_zeros n = let e : n * 1 ≡ n = omega arith in sum_by-replicate (λ w. cond (eqb w 0) 1 0) n 0 ∙ e
 
 -- what a bench at work keeps
 pub at_work : (mark n : ℕ) (ws : List ℕ) (s : Size) (st : Stage) → st ≡ Working s n → Kept st mark ws → AtWork (bench_at st mark ws) mark s n ws
@@ -62,6 +64,9 @@ at_work mark n ws s st e kept =
       written = k.written;
       count = k.count;
     }
+
+pub ran_length : (s : Size) (ws : List ℕ) → Ready s ws → length (block ws (43 * s.quads + 2 * s.points) (s.quads + s.points)) ≡ s.quads + s.points
+ran_length s ws r = length_block ws (43 * s.quads + 2 * s.points) (s.quads + s.points) (omega arith)
 
 pub begin_keeps : (mark : ℕ) (ws vs : List ℕ) (s : Size) (st : Stage) → st ≡ Standing s → ∥ Stands st ws ∥₁ → 4 * s.quads ≤ most_quads → 44 * s.quads + 3 * s.points ≤ length ws →
     vs ≡ laid ws (8 * s.quads + s.points) (replicate (36 * s.quads + 2 * s.points) 0) → Kept (Working s (s.quads + s.points)) mark vs
@@ -133,25 +138,25 @@ module _ (b : State) (mark n : ℕ) (s : Size) (ws : List ℕ) (a : AtWork b mar
       rw is (record { few = omega arith; room = rw (q, p) fits; lawful = rw (q, p) law; written = ∣ tt ∣₁; count = refl })
 
 -- a mesh that was loaded
-module _ (cs fs ms ss : List ℕ) (j : fine ≡ judge (mesh_of cs fs ms ss)) where
-  pub judged_lawful : Lawful (mesh_of cs fs ms ss)
-  judged_lawful = (judges (mesh_of cs fs ms ss)).only_lawful (sym j)
+module _ (t : Tables) (j : fine ≡ judge (mesh t)) where
+  pub judged_lawful : Lawful (mesh t)
+  judged_lawful = (judges (mesh t)).only_lawful (sym j)
 
-  pub judged_few : ((mesh_of cs fs ms ss).quads ≤ most_quads) × ((mesh_of cs fs ms ss).points ≤ 2 * (mesh_of cs fs ms ss).quads)
+  pub judged_few : ((mesh t).quads ≤ most_quads) × ((mesh t).points ≤ 2 * (mesh t).quads)
   judged_few = let w = judged_lawful.sound in (w.quads_few, w.points_few)
 
-  pub load_laid : (ws vs : List ℕ) (F : ℕ) → F ≡ (mesh_of cs fs ms ss).quads → 8 * F + (mesh_of cs fs ms ss).points ≤ length ws → vs ≡ four_laid ws F cs fs ms ss →
-      LoadWrites (mesh_of cs fs ms ss) ws vs
+  pub load_laid : (ws vs : List ℕ) (F : ℕ) → F ≡ (mesh t).quads → 8 * F + (mesh t).points ≤ length ws → vs ≡ four_laid ws F t.corners.now t.friends.now t.marks.now t.starts.now →
+      LoadWrites (mesh t) ws vs
   unfolding mesh_of
   load_laid ws vs F e room is =
-      let m = mesh_of cs fs ms ss in
-      let k : vs ≡ four_laid ws m.quads cs fs ms ss = is ∙ ap (λ x. four_laid ws x cs fs ms ss) e in
+      let m = mesh t in
+      let k : vs ≡ four_laid ws m.quads t.corners.now t.friends.now t.marks.now t.starts.now = is ∙ ap (λ x. four_laid ws x t.corners.now t.friends.now t.marks.now t.starts.now) e in
       subst (λ x. LoadWrites m ws x) (sym k) (loads_write m ws judged_lawful.sound.counted (omega arith))
 
-  pub load_keeps : (mark : ℕ) (ws vs : List ℕ) (s : Size) → s.quads ≡ (mesh_of cs fs ms ss).quads → s.points ≡ (mesh_of cs fs ms ss).points → 8 * s.quads + s.points ≤ length ws →
-      vs ≡ four_laid ws s.quads cs fs ms ss → Kept (Standing s) mark vs
+  pub load_keeps : (mark : ℕ) (ws vs : List ℕ) (s : Size) → s.quads ≡ (mesh t).quads → s.points ≡ (mesh t).points → 8 * s.quads + s.points ≤ length ws →
+      vs ≡ four_laid ws s.quads t.corners.now t.friends.now t.marks.now t.starts.now → Kept (Standing s) mark vs
   load_keeps mark ws vs s e f room is =
-      let m = mesh_of cs fs ms ss in
+      let m = mesh t in
       let b = load_laid ws vs s.quads e (omega arith) is in
       let l = b.length_kept in
       let law : Lawful (standing_in vs m.quads m.points) = subst Lawful (sym b.standing_is) judged_lawful in

@@ -1,10 +1,12 @@
 -- What each call answers and leaves, by the stage of the bench.
 use Rattle.std.proofs.Common.{◌≡◌, ℕ, ◌+◌, ◌*◌, ◌<◌, ◌≤◌, Bool, true, false, not, eqb, ltb, List, length, replicate, Some, None, sym, refl, ap, ◌∙◌, arith}
 use Rattle.std.proofs.lemmas.Bool.{cond-true, cond-false, lt-ltb, le-ltb, le-leb, lt-leb, eq-eqb, ne_eqb}
-use Rattle.mesh.specs.Causes.{judge, mesh_of}
+use Rattle.mesh.specs.Causes.{judge}
 use Rattle.mesh.specs.Mesh.{Mesh, most_quads}
 use Rattle.mesh.specs.Refusals.{Verdict, fine, declined}
 use Rattle.refinement.specs.Tasks.{Task, quad_task, point_task, TaskOf}
+use Rattle.tables.specs.Lent.{mesh}
+use Rattle.tables.specs.declared.lent.Tables.{Tables}
 use Rattle.chain.specs.Calls.{Call, load, begin, quad, point, finish, withdraw, State, cause, and_next, missing, words_to_load, holding, refusal, carry}
 use Rattle.chain.specs.Clauses.{Called}
 use Rattle.chain.proofs.Runs.{carried, declines}
@@ -139,23 +141,26 @@ module _ (b : State) (mark n : ℕ) (s : Size) (ws : List ℕ) (a : AtWork b mar
       (λ i. record { words = d.length_kept i; mark = mark; standing = Some (d.standing_is i); work = None }))
 
 -- loads
-module _ (mark : ℕ) (ws : List ℕ) (s : Stage) (cs fs ms ss : List ℕ) where
-  pub unlawful : (n p : ℕ) → declined n p ≡ judge (mesh_of cs fs ms ss) → Called (bench_at s mark ws) (load cs fs ms ss) (bench_at s mark ws) (declined n p)
-  unlawful n p e = declines (bench_at s mark ws) (load cs fs ms ss) n p (sym (ap (λ v. and_next v (later (bench_at s mark ws) (mesh_of cs fs ms ss))) e))
+module _ (mark : ℕ) (ws : List ℕ) (s : Stage) (t : Tables) where
+  abbrev loads : Call
+  loads = load t.corners.now t.friends.now t.marks.now t.starts.now
 
-  pub load_in_work : (z : Size) (n : ℕ) → s ≡ Working z n → fine ≡ judge (mesh_of cs fs ms ss) → Called (bench_at s mark ws) (load cs fs ms ss) (bench_at s mark ws) (declined 11 0)
+  pub unlawful : (n p : ℕ) → declined n p ≡ judge (mesh t) → Called (bench_at s mark ws) loads (bench_at s mark ws) (declined n p)
+  unlawful n p e = declines (bench_at s mark ws) loads n p (sym (ap (λ v. and_next v (later (bench_at s mark ws) (mesh t))) e))
+
+  pub load_in_work : (z : Size) (n : ℕ) → s ≡ Working z n → fine ≡ judge (mesh t) → Called (bench_at s mark ws) loads (bench_at s mark ws) (declined 11 0)
   load_in_work z n e j =
-      refused_at mark ws s (Working z n) e (load cs fs ms ss) 11 0 (sym (ap (λ v. and_next v (later (bench_at (Working z n) mark ws) (mesh_of cs fs ms ss))) j))
+      refused_at mark ws s (Working z n) e loads 11 0 (sym (ap (λ v. and_next v (later (bench_at (Working z n) mark ws) (mesh t))) j))
 
-  module _ (idle : (z : Size) (n : ℕ) → s ≡ Working z n → ⊥) (j : fine ≡ judge (mesh_of cs fs ms ss)) (G U : ℕ) (e : G ≡ (mesh_of cs fs ms ss).quads) (f : U ≡ (mesh_of cs fs ms ss).points) where
-    only_room : refusal (bench_at s mark ws) (load cs fs ms ss) ≡ cause 14 0 (ltb (length ws) (8 * (mesh_of cs fs ms ss).quads + (mesh_of cs fs ms ss).points)) fine
-    only_room = sym (ap (λ v. and_next v (later (bench_at s mark ws) (mesh_of cs fs ms ss))) j) ∙ not_in_work s mark ws (mesh_of cs fs ms ss) idle
+  module _ (idle : (z : Size) (n : ℕ) → s ≡ Working z n → ⊥) (j : fine ≡ judge (mesh t)) (G U : ℕ) (e : G ≡ (mesh t).quads) (f : U ≡ (mesh t).points) where
+    only_room : refusal (bench_at s mark ws) loads ≡ cause 14 0 (ltb (length ws) (8 * (mesh t).quads + (mesh t).points)) fine
+    only_room = sym (ap (λ v. and_next v (later (bench_at s mark ws) (mesh t))) j) ∙ not_in_work s mark ws (mesh t) idle
 
-    pub load_too_few : length ws < 8 * G + U → Called (bench_at s mark ws) (load cs fs ms ss) (bench_at s mark ws) (declined 14 0)
-    load_too_few h = declines (bench_at s mark ws) (load cs fs ms ss) 14 0 (only_room ∙ cond-true _ _ _ (lt-ltb (length ws) (8 * (mesh_of cs fs ms ss).quads + (mesh_of cs fs ms ss).points) (omega arith)))
+    pub load_too_few : length ws < 8 * G + U → Called (bench_at s mark ws) loads (bench_at s mark ws) (declined 14 0)
+    load_too_few h = declines (bench_at s mark ws) loads 14 0 (only_room ∙ cond-true _ _ _ (lt-ltb (length ws) (8 * (mesh t).quads + (mesh t).points) (omega arith)))
 
-    pub load_carried : (vs : List ℕ) → LoadWrites (mesh_of cs fs ms ss) ws vs → 8 * G + U ≤ length ws →
-        Called (bench_at s mark ws) (load cs fs ms ss) (standing_bench mark G U vs) fine
+    pub load_carried : (vs : List ℕ) → LoadWrites (mesh t) ws vs → 8 * G + U ≤ length ws →
+        Called (bench_at s mark ws) loads (standing_bench mark G U vs) fine
     load_carried vs d h =
-        carried (bench_at s mark ws) _ (load cs fs ms ss) (only_room ∙ cond-false _ _ _ (le-ltb (length ws) (8 * (mesh_of cs fs ms ss).quads + (mesh_of cs fs ms ss).points) (omega arith)))
-        (rw (e, f) (loaded (bench_at s mark ws) mark ws vs (mesh_of cs fs ms ss) (words_of s mark ws) (mark_of s mark ws) d))
+        carried (bench_at s mark ws) _ loads (only_room ∙ cond-false _ _ _ (le-ltb (length ws) (8 * (mesh t).quads + (mesh t).points) (omega arith)))
+        (rw (e, f) (loaded (bench_at s mark ws) mark ws vs (mesh t) (words_of s mark ws) (mark_of s mark ws) d))

@@ -1,5 +1,5 @@
 -- A task's writes, one table after the other.
-use Rattle.std.proofs.Common.{◌≡◌, ℕ, suc, ◌+◌, ◌*◌, ◌/◌, ◌%◌, ◌<◌, ◌≤◌, eqb, List, [], ◌∷◌, length, get_or, set, take, drop, Some, sym, refl, ap, ◌∙◌, inl, inr, append_assoc, arith}
+use Rattle.std.proofs.Common.{◌≡◌, ℕ, suc, ◌+◌, ◌*◌, ◌/◌, ◌%◌, ◌<◌, ◌≤◌, Bool, eqb, List, [], ◌∷◌, length, get_or, set, take, drop, Some, sym, refl, ap, ◌∙◌, inl, inr, append_assoc, arith}
 use Rattle.std.specs.List.{position, position_or_len}
 use Rattle.std.proofs.lemmas.Bool.{cases_lt, cond-true, lt-ltb}
 use Rattle.std.proofs.lemmas.Bool.Decides.{nat_tests}
@@ -14,7 +14,6 @@ use Rattle.refinement.proofs.Totals.{least_is, least_fails, least_passes}
 use Rattle.tables.specs.Lent.{mesh}
 use Rattle.tables.specs.declared.lent.Tables.{Tables}
 use Rattle.layout.specs.Layout.{block, standing_in, laid, shifted, after_task}
-use Rattle.layout.proofs.Blocks.{length_block}
 use Rattle.bench.specs.Writes.{friends_by, marks_by, starts_by}
 
 shifted_from : (a b k : ℕ) (xs : List ℕ) → shifted a (from b k xs) ≡ from (a + b) k xs
@@ -97,23 +96,20 @@ slot_fits quads v r is =
 abbrev pub first_left : List ℕ → ℕ → ℕ → ℕ
 first_left ws F V = least (λ i. eqb (get_or (block ws (43 * F + 2 * V) (F + V)) i 0) 0) (F + V)
 
-module _ (F V : ℕ) (ws : List ℕ) (room : 44 * F + 3 * V ≤ length ws) where
-  pub one_left : (k : ℕ) → position (λ w. eqb w 0) (block ws (43 * F + 2 * V) (F + V)) ≡ Some k → (k ≡ first_left ws F V) × (k < F + V)
+-- by the words that say which tasks have run
+module _ (xs : List ℕ) (n : ℕ) (l : length xs ≡ n) where
+  pub one_left : (k : ℕ) → position (λ w. eqb w 0) xs ≡ Some k → (k ≡ least (λ i. eqb (get_or xs i 0) 0) n) × (k < n)
   one_left k e =
-      let l = length_block ws (43 * F + 2 * V) (F + V) (omega arith) in
-      let p = position-Some (λ w. eqb w 0) (block ws (43 * F + 2 * V) (F + V)) k 0 e in
+      let p = position-Some (λ w. eqb w 0) xs k 0 e in
       let h = p.0 in
-      (sym (least_is (λ i. eqb (get_or (block ws (43 * F + 2 * V) (F + V)) i 0) 0) (F + V) k (omega arith) p.1 p.2), omega arith)
+      (sym (least_is (λ i. eqb (get_or xs i 0) 0) n k (omega arith) p.1 p.2), omega arith)
 
   -- the lowest one passes, and so position would find it
-  pub none_left : ((k : ℕ) → position (λ w. eqb w 0) (block ws (43 * F + 2 * V) (F + V)) ≡ Some k → ⊥) → F + V ≤ first_left ws F V
-  none_left none = elim (cases_lt (first_left ws F V) (F + V)) [
+  pub none_left : ((k : ℕ) → position (λ w. eqb w 0) xs ≡ Some k → ⊥) → n ≤ least (λ i. eqb (get_or xs i 0) 0) n
+  none_left none = elim (cases_lt (least (λ i. eqb (get_or xs i 0) 0) n) n) [
     | inl h ↦
-        let l = length_block ws (43 * F + 2 * V) (F + V) (omega arith) in
-        let n = first_left ws F V in
-        let is = position_or_len_is (λ w. eqb w 0) (block ws (43 * F + 2 * V) (F + V)) n 0 (omega arith)
-        (λ k b. least_fails (λ i. eqb (get_or (block ws (43 * F + 2 * V) (F + V)) i 0) 0) (F + V) k b)
-        (λ b. least_passes (λ i. eqb (get_or (block ws (43 * F + 2 * V) (F + V)) i 0) 0) (F + V) h) in
-        absurd (none _ (cond-true _ _ _ (lt-ltb (position_or_len (λ w. eqb w 0) (block ws (43 * F + 2 * V) (F + V))) (length (block ws (43 * F + 2 * V) (F + V))) (omega arith))))
+        let p : ℕ → Bool = λ i. eqb (get_or xs i 0) 0 in
+        let is = position_or_len_is (λ w. eqb w 0) xs (least p n) 0 (omega arith) (λ k b. least_fails p n k b) (λ b. least_passes p n h) in
+        absurd (none _ (cond-true _ _ _ (lt-ltb (position_or_len (λ w. eqb w 0) xs) (length xs) (omega arith))))
     | inr h ↦ h
   ]

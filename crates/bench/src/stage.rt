@@ -1,7 +1,7 @@
 // The size of a level, and how far a bench is.
 ghost use Rattle.std.specs.Prelude.{◌≡◌, ◌+◌, ◌*◌, ◌^◌, ◌≤◌};
 
-// How many quads and points a level has.
+// How many quads and points a level has, which are few; of the counts that a text states (`lines::Counts`) nothing is known.
 #[derive(Clone, Copy)]
 pub struct Size {
     pub(crate) quads: u32,
