@@ -135,8 +135,8 @@ mod tests {
             Request::Finish,
         ]);
         // 8 quads and 14 points have 78 words
-        for i in 0..78 {
-            assert_eq!(rt; forward[i], back[i]);
+        for (a, b) in forward.iter().zip(back.iter()).take(78) {
+            assert_eq!(rt; *a, *b);
         }
         assert_eq!(rt;
             (forward[0], forward[1], forward[2], forward[3]),

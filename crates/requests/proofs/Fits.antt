@@ -1,5 +1,5 @@
 -- A slip that is held closes the level in work of its bench.
-use Rattle.std.proofs.Common.{◌≡◌, ℕ, Bool, true, false, not, List, [], ◌∷◌, Some, None, Option, refl, ap, ◌∙◌, arith}
+use Rattle.std.proofs.Common.{◌≡◌, ℕ, Bool, true, false, not, List, [], ◌∷◌, Some, None, Option, refl, ap, ◌∙◌}
 use Rattle.std.proofs.lemmas.Bool.{cond-false, eq-eqb}
 use Rattle.mesh.specs.Mesh.{Mesh}
 use Rattle.mesh.specs.Causes.{judge}
@@ -16,7 +16,7 @@ pub settles : (s : State) (m : ℕ) → Fits s (Some m) → refusal s (withdraw 
 settles s m f = cond-false _ _ _ f.1 ∙ cond-false _ _ _ f.2 ∙ ap (λ b. cause 17 0 (not b) fine) (eq-eqb m s.mark f.0)
 
 clear : (n p : ℕ) (holds : Bool) (more : Verdict) → cause n p holds more ≡ fine → (holds ≡ false) × (more ≡ fine)
-clear n p true more e = let z : ◌≡◌ {A = ℕ} 0 1 = cc in absurd (omega arith)
+clear n p true more e = let z : ⊥ = cc in absurd z
 clear n p false more e = (refl, e)
 
 -- a call that is refused, or that leaves a level in work
@@ -40,7 +40,7 @@ opened_there (Some m) a = refl
 -- a load is refused while a level is in work
 load_stays : (s u : State) (m : ℕ) (v more : Verdict) (holds : Bool) → holds ≡ false → Fits s (Some m) → Fits (either (and_next v (cause 11 0 (not holds) more)) u s) (Some m)
 load_stays s u m (declined n p) more b e f = f
-load_stays s u m fine more true e f = let z : ◌≡◌ {A = ℕ} 0 1 = cc in absurd (omega arith)
+load_stays s u m fine more true e f = let z : ⊥ = cc in absurd z
 load_stays s u m fine more false e f = f
 
 pub opens : (s : State) (v : Verdict) → refusal s begin ≡ v → Fits (either v (carry s begin) s) (unless v (Some s.mark) None)

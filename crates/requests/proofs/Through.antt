@@ -1,5 +1,5 @@
 -- Several requests: what they leave is what their calls leave, so the promise goes on through them.
-use Rattle.std.proofs.Common.{◌≡◌, ℕ, List, [], ◌∷◌, ◌++◌, None, Option, sym, refl, ap, ◌∙◌, subst, arith}
+use Rattle.std.proofs.Common.{◌≡◌, ℕ, List, [], ◌∷◌, ◌++◌, None, Option, sym, refl, ap, ◌∙◌, subst}
 use Rattle.chain.specs.Calls.{Call, State, next}
 use Rattle.chain.specs.Clauses.{After, GoesOnThrough, Made, run_on}
 use Rattle.chain.proofs.Runs.{through_made, through_run}
@@ -39,4 +39,4 @@ module _ (s : State) (rs : List Asked) (middle : State) (h : Option ℕ)
   fits_held = subst (λ (u : Session). Fits u.bench u.held) (sym e) (fits_plays (record { bench = s; held = None }) rs tt)
 
 pub never_refused : {A : Type 0} (v : Verdict) (n p : ℕ) → declined n p ≡ v → v ≡ fine → A
-never_refused v n p a b = let z : ◌≡◌ {A = ℕ} 0 1 = cc in absurd (omega arith)
+never_refused v n p a b = let z : ⊥ = cc in absurd z

@@ -1,4 +1,4 @@
-// The form of what asks: rows, each of which makes a request, and what is kept of an answer.
+// Rows of some form, each of which makes a request, and the form in which answers are kept.
 ghost use Rattle.std.specs.Prelude.{◌≡◌};
 ghost use Rattle.requests.specs.Sessions.{Asked, asked};
 ghost use Rattle.requests.specs.declared.request.Answer.{Answer};
@@ -10,6 +10,7 @@ pub trait Form<'s> {
 
     type Kept: Copy;
 
+    // What a row asks, and what is kept of an answer.
     ghost asks: { Self → Self.Row → Asked };
 
     ghost keeps: { Answer → Self.Kept };

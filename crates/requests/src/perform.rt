@@ -63,6 +63,7 @@ fn perform_in<'s, F: Form<'s>>(
 {
     let mut held = held;
     let asked = &rows[..rows.len().min(answers.len())];
+    // by index: over a zip with answers.iter_mut() the proof doesn't close, since no invariant can name the answers
     for (i, row) in asked.iter().enumerate() {
         let (slip, answer) = ask(bench, held, form.request(row));
         held = slip;

@@ -1,6 +1,6 @@
-use Rattle.std.proofs.Common.{◌≡◌, ◌<◌, ◌≤◌, [], length, map, take, refl, ap, ◌∙◌, arith}
+use Rattle.std.proofs.Common.{◌≡◌, ◌<◌, ◌≤◌, [], get_or, length, map, take, refl, ap, ◌∙◌, arith}
 use Rattle.std.proofs.lemmas.List.{length-take}
-use Rattle.requests.specs.Sessions.{beside, play, plays, reply_of}
+use Rattle.requests.specs.Sessions.{beside, play, plays, reply_of, told_reply}
 use Rattle.requests.proofs.Rows.{front_is, turn, kept_more, ended, given}
 use Rattle.requests.proofs.perform.perform_in.Goals as goal
 
@@ -17,9 +17,8 @@ loop-i-preserved g c =
     let u = beside c.ask-slip.new.bench c.ask-slip.result.0 in
     let l = length-take c.min.result c.args.rows.now in
     let room : i < length c.loop-i.answers = omega arith in
-    let is = c.request.ensures ∙ ap asks c.index-asked-i.is in
-    let step : u ≡ play t (asks _) = c.ask-slip.ensures.after ∙ ap (play t) is in
-    let said = c.ask-slip.ensures.reply ∙ ap (reply_of t.bench t.held) is in
+    let step : u ≡ play t (asks (get_or rs i row)) = cc in
+    let said : told_reply c.ask-slip.result.1 ≡ reply_of t.bench t.held (asks (get_or rs i row)) = cc in
     record {
       same_end = turn asks t u rs i row c.loop-i-test.true step _ c.loop-i.invariant.same_end;
       given =
