@@ -6,6 +6,7 @@ ghost use Rattle.mesh.specs.Mesh.{Mesh, mark as mark_word, off_edge, valence as 
 ghost use Rattle.tables.specs.Lent.{mesh};
 ghost use Rattle.carry.specs.Walks.{Seen};
 
+use crate::reads::marked_step;
 use crate::seen::Around;
 use mesh::mark::Mark;
 use mesh::number::{Corner, Point};
@@ -65,7 +66,7 @@ pub(crate) fn around<'a>(level: &LawfulTables<'a>, point: Point) -> Around
     let mut corner = Corner(start);
     let mut seen = Around::none();
     loop {
-        let (mark, next) = level.marked_step(corner);
+        let (mark, next) = marked_step(level, corner);
         seen = seen.more(mark);
         corner = next;
         if corner.0 == start {

@@ -6,6 +6,7 @@ mod corners;
 pub mod lent;
 mod mix;
 mod moved;
+mod reads;
 mod rows;
 mod seen;
 pub mod standing;

@@ -7,6 +7,7 @@ ghost use Rattle.tables.specs.Lent.{mesh};
 ghost use Rattle.carry.specs.Mixes.{Mixed, blend};
 ghost use Rattle.carry.specs.Rows.{made};
 
+use crate::reads::{edge, point};
 use crate::valued::Valued;
 use kinds::row::Rowed;
 use kinds::value::{ValueKind, add_part};
@@ -42,10 +43,10 @@ impl<'a, 'r, K: ValueKind> Valued<'a, 'r, K> {
     {
         let first = 4 * quad.0;
         let mut mix = K::start();
-        self.add_at(self.level.point(Corner(first)), 1, &mut mix);
-        self.add_at(self.level.point(Corner(first + 1)), 1, &mut mix);
-        self.add_at(self.level.point(Corner(first + 2)), 1, &mut mix);
-        self.add_at(self.level.point(Corner(first + 3)), 1, &mut mix);
+        self.add_at(point(&self.level, Corner(first)), 1, &mut mix);
+        self.add_at(point(&self.level, Corner(first + 1)), 1, &mut mix);
+        self.add_at(point(&self.level, Corner(first + 2)), 1, &mut mix);
+        self.add_at(point(&self.level, Corner(first + 3)), 1, &mut mix);
         K::finish(mix)
     }
 
@@ -55,7 +56,7 @@ impl<'a, 'r, K: ValueKind> Valued<'a, 'r, K> {
         requires { off.0 < 2 * (mesh self.now.level.tables).quads }
         ensures { result ≡ blend K.blended (made K.Rowed.verdict self.now.rows.rows.now) (edge_parts (mesh self.now.level.tables) off.0) }
     {
-        let record = self.level.edge(off);
+        let record = edge(&self.level, off);
         let a = capped(record.mark);
         let near = 6 * (256 - a) + 8 * a;
         let far = 256 - a;
@@ -65,10 +66,18 @@ impl<'a, 'r, K: ValueKind> Valued<'a, 'r, K> {
         let mut mix = K::start();
         self.add_at(record.begin, near, &mut mix);
         self.add_at(record.end, near, &mut mix);
-        self.add_at(self.level.point(Corner(first + side)), far, &mut mix);
-        self.add_at(self.level.point(Corner(first + (3 - side))), far, &mut mix);
-        self.add_at(self.level.point(other_end(Corner(from))), far, &mut mix);
-        self.add_at(self.level.point(other_end(Corner(from + 1))), far, &mut mix);
+        self.add_at(point(&self.level, Corner(first + side)), far, &mut mix);
+        self.add_at(
+            point(&self.level, Corner(first + (3 - side))),
+            far,
+            &mut mix,
+        );
+        self.add_at(point(&self.level, other_end(Corner(from))), far, &mut mix);
+        self.add_at(
+            point(&self.level, other_end(Corner(from + 1))),
+            far,
+            &mut mix,
+        );
         K::finish(mix)
     }
 }

@@ -10,6 +10,7 @@ ghost use Rattle.carry.specs.Rows.{made};
 ghost use Rattle.carry.specs.Walks.{Seen};
 
 use crate::around::around;
+use crate::reads::{marked_step, point, step};
 use crate::valued::Valued;
 use crate::vertex::Vertex;
 use kinds::row::Rowed;
@@ -43,9 +44,9 @@ impl<'v, 'a, 'r, K: ValueKind> Vertex<'v, 'a, 'r, K> {
         valued.add_at(self.point, times * (n * (4 * n - 7)), mix);
         let mut corner = Corner(valued.level.tables.starts[self.point.0 as usize]);
         for _met in 0..n {
-            valued.add_at(valued.level.point(other_end(corner)), times * 6, mix);
-            valued.add_at(valued.level.point(diagonal(corner)), times, mix);
-            corner = valued.level.step(corner);
+            valued.add_at(point(&valued.level, other_end(corner)), times * 6, mix);
+            valued.add_at(point(&valued.level, diagonal(corner)), times, mix);
+            corner = step(&valued.level, corner);
         }
     }
 
@@ -56,9 +57,9 @@ impl<'v, 'a, 'r, K: ValueKind> Vertex<'v, 'a, 'r, K> {
         let valued = self.valued;
         let mut corner = Corner(valued.level.tables.starts[self.point.0 as usize]);
         for _met in 0..self.seen.valence {
-            let (mark, next) = valued.level.marked_step(corner);
+            let (mark, next) = marked_step(&valued.level, corner);
             if is_marked(mark) {
-                valued.add_at(valued.level.point(other_end(corner)), weight, mix);
+                valued.add_at(point(&valued.level, other_end(corner)), weight, mix);
             }
             corner = next;
         }

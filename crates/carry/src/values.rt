@@ -9,6 +9,7 @@ ghost use Rattle.tables.specs.Lent.{mesh};
 ghost use Rattle.carry.specs.Rows.{made, refusal};
 ghost use Rattle.carry.specs.Slots.{RightAt};
 
+use crate::reads::edge;
 use crate::rows::{Rows, Sizes};
 use crate::valued::Valued;
 use kinds::row::Rowed;
@@ -59,7 +60,7 @@ impl<'a, 'r, K: ValueKind> Valued<'a, 'r, K> {
         for o in 0..2 * self.level.tables.quads() {
             let off = OffEdge(o as u32);
             let value = self.edge(off);
-            put(out, edge_slot(self.level.edge(off).friend), &value);
+            put(out, edge_slot(edge(&self.level, off).friend), &value);
         }
     }
 }
