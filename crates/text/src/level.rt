@@ -1,7 +1,6 @@
 // The lines of a mesh, written into a lent buffer.
 ghost use Rattle.std.specs.Prelude.{◌≡◌, ◌*◌, ◌/◌, length};
 ghost use Rattle.std.specs.List.{flat_map};
-ghost use Rattle.mesh.specs.Mesh.{Lawful};
 ghost use Rattle.lines.specs.Text.{line_text, quad_rows, start_rows, mesh_text};
 ghost use Rattle.tables.specs.Lent.{mesh};
 ghost use Rattle.text.specs.Put.{Room, Written, Wrote};
@@ -9,7 +8,7 @@ ghost use Rattle.text.specs.Put.{Room, Written, Wrote};
 use crate::put::{Writer, words_size};
 use lines::kind::Kind;
 use mesh::fault::Fault;
-use tables::lent::Tables;
+use tables::lawful::LawfulTables;
 
 impl Writer<'_> {
     // Writes the lines of the quads.
@@ -48,37 +47,36 @@ impl Writer<'_> {
     }
 
     // Writes the text of a mesh.
-    fn put_text(&mut self, level: &Tables<'_>)
-        requires lawful { Lawful (mesh level.now) }
-        requires room { Room self.old (length (mesh_text (mesh level.now))) }
-        ensures { Wrote self.old (mesh_text (mesh level.now)) self.new }
+    fn put_text(&mut self, level: &LawfulTables<'_>)
+        requires room { Room self.old (length (mesh_text (mesh level.now.tables))) }
+        ensures { Wrote self.old (mesh_text (mesh level.now.tables)) self.new }
     {
-        let counts = [level.quads() as u32, level.starts.len() as u32];
+        let tables = level.tables;
+        let counts = [tables.quads() as u32, tables.starts.len() as u32];
         self.put_line(Kind::Counts, &counts);
-        self.put_quads(level.corners, level.friends, level.marks);
-        self.put_starts(level.starts);
+        self.put_quads(tables.corners, tables.friends, tables.marks);
+        self.put_starts(tables.starts);
     }
 }
 
 // How many bytes the text of a mesh has.
-fn text_size(level: &Tables<'_>) -> usize
-    requires { Lawful (mesh level.now) }
-    ensures { result ≡ length (mesh_text (mesh level.now)) }
+fn text_size(level: &LawfulTables<'_>) -> usize
+    ensures { result ≡ length (mesh_text (mesh level.now.tables)) }
 {
-    let quads = level.quads();
-    let points = level.starts.len();
+    let tables = level.tables;
+    let quads = tables.quads();
+    let points = tables.starts.len();
     let counts = words_size(&[quads as u32, points as u32]);
-    let corners = words_size(level.corners);
-    let friends = words_size(level.friends);
-    let marks = words_size(level.marks);
-    let starts = words_size(level.starts);
+    let corners = words_size(tables.corners);
+    let friends = words_size(tables.friends);
+    let marks = words_size(tables.marks);
+    let starts = words_size(tables.starts);
     3 * (1 + quads + points) + (counts + (corners + (friends + (marks + starts))))
 }
 
 // Writes the text of a mesh where there is room for it, and else nothing.
-pub(crate) fn write_level(level: &Tables<'_>, out: &mut [u8]) -> Result<usize, Fault>
-    requires { Lawful (mesh level.now) }
-    ensures { Written (mesh_text (mesh level.now)) out.old out.new result }
+pub(crate) fn write_level(level: &LawfulTables<'_>, out: &mut [u8]) -> Result<usize, Fault>
+    ensures { Written (mesh_text (mesh level.now.tables)) out.old out.new result }
 {
     if out.len() < text_size(level) {
         return Err(Fault::TooShort);

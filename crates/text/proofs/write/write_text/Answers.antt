@@ -5,5 +5,5 @@ use Rattle.text.proofs.write.write_text.Goals as goal
 
 pub returns : goal.returns
 returns c =
-    let l = c.in_ok-level.ensures in
-    writes (state c.args.bench.now) (mesh c.in_ok-level.level) c.args.out.now c.write_level.new.out l.is l.lawful c.write_level.result c.write_level.ensures
+    let l = c.in_ok-tables.ensures in
+    writes (state c.args.bench.now) (mesh c.in_ok-tables.tables) c.args.out.now c.write_level.new.out l.is l.lawful c.write_level.result c.write_level.ensures

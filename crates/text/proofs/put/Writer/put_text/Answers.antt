@@ -27,7 +27,7 @@ parts_length : (t : Tables) → length (mesh_text (mesh t)) ≡ length (heading 
 parts_length t = ap length (in_parts t) ∙ length-append (heading t) (quads_text t ++ starts_text t) ∙ (let a = length-append (quads_text t) (starts_text t) in omega arith)
 
 pub overflow_cast-counts-2 : goal.overflow_cast-counts-2
-overflow_cast-counts-2 c = let s = sizes c.args.level.now c.requires.lawful in record { fits = omega arith }
+overflow_cast-counts-2 c = let s = sizes c.args.level.now.tables c.args.level.now.lawful in record { fits = omega arith }
 
 -- the counts as the code has them
 counts : (t : Tables) (q : ℕ) → q ≡ (mesh t).quads → line_text 48 48 (q ∷ (length t.starts.now ∷ [])) ≡ heading t
@@ -36,36 +36,36 @@ counts t q e = ap (λ (x : ℕ). line_text 48 48 (x ∷ (length t.starts.now ∷
 
 pub put_line-requires : goal.put_line-requires
 put_line-requires c =
-    let t = c.args.level.now in
+    let t = c.args.level.now.tables in
     let h = ap length (counts t c.quads.result c.quads.ensures) in
     let l = parts_length t in
-    omega (arith, c.requires.room)
+    omega (arith, c.requires)
 
 -- the room after the counts, and after the quads
 pub put_quads-requires : goal.put_quads-requires
 unfolding quads_text
 put_quads-requires c =
-    let t = c.args.level.now in
-    let s = sizes t c.requires.lawful in
+    let t = c.args.level.now.tables in
+    let s = sizes t c.args.level.now.lawful in
     let h = ap length (counts t c.quads.result c.quads.ensures) in
     let l = parts_length t in
     let n = length (quads_text t) + length (starts_text t) in
-    let r = wrote_room _ _ _ n c.put_line.ensures (omega (arith, c.requires.room)) in
+    let r = wrote_room _ _ _ n c.put_line.ensures (omega (arith, c.requires)) in
     record { corner_count = s.corners_in_fours; friend_count = s.friends_by_quads; mark_count = s.marks_by_quads; room = omega arith }
 
 pub put_starts-requires : goal.put_starts-requires
 unfolding quads_text starts_text
 put_starts-requires c =
-    let t = c.args.level.now in
+    let t = c.args.level.now.tables in
     let h = ap length (counts t c.quads.result c.quads.ensures) in
     let l = parts_length t in
     let n = length (quads_text t) + length (starts_text t) in
-    wrote_room _ _ _ _ c.put_quads.ensures (wrote_room _ _ _ n c.put_line.ensures (omega (arith, c.requires.room)))
+    wrote_room _ _ _ _ c.put_quads.ensures (wrote_room _ _ _ n c.put_line.ensures (omega (arith, c.requires)))
 
 pub returns : goal.returns
 unfolding quads_text starts_text
 returns c =
-    let t = c.args.level.now in
+    let t = c.args.level.now.tables in
     let v = c.args.self.now in
     let w = c.put_line.new.self in
     let x = c.put_quads.new.self in
