@@ -117,7 +117,7 @@ fn copy_in(cells: &mut [u32], at: usize, xs: &[u32])
     cells[at..at + xs.len()].copy_from_slice(xs);
 }
 
-// The lent words, in a struct of their own with no ghost field: a method of a struct that has one may not lend the slice.
+// The lent words, in a struct of their own: while they are written, what a bench keeps of them does not hold.
 #[derive(Drop)]
 pub struct Words<'a> {
     pub cells: &'a mut [u32],

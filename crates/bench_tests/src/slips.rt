@@ -110,8 +110,8 @@ fn a_level_in_work_can_be_asked_about(rt: HostRuntime) -> Result<(), Fail> {
     Ok(())
 }
 
-// The number and the place of a refusal.
-fn told<A: Drop>(answer: Result<A, Fault>) -> (u8, u32) {
+// The number and the place of a refusal; 0 and 0 where there is none.
+pub fn told<A: Drop>(answer: Result<A, Fault>) -> (u8, u32) {
     match answer {
         Ok(_) => (0, 0),
         Err(fault) => (fault.number(), fault.place()),

@@ -1,5 +1,6 @@
 // Values and corner values of a bench's standing level.
 use crate::meshes::Made;
+use crate::slips::told;
 use attributes::colour::Colour;
 use attributes::coordinates::Coordinates;
 use attributes::influence::Influence;
@@ -7,7 +8,6 @@ use attributes::texture::Texture;
 use bench::bench::Bench;
 use carry::standing::{corners, values};
 use kinds::row::Rowed;
-use mesh::fault::Fault;
 use std::test::*;
 use tables::lent::Tables;
 
@@ -17,14 +17,6 @@ const PILLOW: Tables<'static> = Tables {
     marks: &[0; 4],
     starts: &[0, 1, 2, 3],
 };
-
-// The number and the place of a refusal; 0 and 0 where there is none.
-fn told(res: Result<(), Fault>) -> (u8, u32) {
-    match res {
-        Ok(()) => (0, 0),
-        Err(fault) => (fault.number(), fault.place()),
-    }
-}
 
 #[test]
 fn values_of_a_bench_are_refused(rt: HostRuntime) -> Result<(), Fail> {
