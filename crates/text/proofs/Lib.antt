@@ -2,4 +2,5 @@ mod Writes
 mod LinesOf
 mod Sizes
 mod Texts
+mod QuadsLeft
 mod Returns

@@ -19,19 +19,9 @@ impl Writer<'_> {
         requires room { Room self.old (length (flat_map (line_text 48 49) (quad_rows (length corners.now / 4) corners.now friends.now marks.now))) }
         ensures { Wrote self.old (flat_map (line_text 48 49) (quad_rows (length corners.now / 4) corners.now friends.now marks.now)) self.new }
     {
-        for q in 0..corners.len() / 4 {
-            let c = 4 * q;
-            let o = 2 * q;
-            let row = [
-                corners[c],
-                corners[c + 1],
-                corners[c + 2],
-                corners[c + 3],
-                friends[o],
-                friends[o + 1],
-                marks[o],
-                marks[o + 1],
-            ];
+        let rest = friends.chunks_exact(2).zip(marks.chunks_exact(2));
+        for (c, (f, m)) in corners.chunks_exact(4).zip(rest) {
+            let row = [c[0], c[1], c[2], c[3], f[0], f[1], m[0], m[1]];
             self.put_line(Kind::Quad, &row);
         }
     }

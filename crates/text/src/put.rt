@@ -6,15 +6,16 @@ ghost use Rattle.text.specs.Put.{Room, Wrote};
 
 use lines::kind::Kind;
 
-// The bytes of the digits. A table, since a test costs a branch that is often foretold wrongly.
-const HEX: [u8; 16] = *b"0123456789abcdef";
-
-// The byte of a digit below 16.
+// The byte of a digit below 16. No table of the bytes: it is slower.
 fn hex(d: u32) -> u8
     requires { d < 16 }
     ensures { result ≡ hex_byte d }
 {
-    HEX[d as usize]
+    if d < 10 {
+        b'0' + d as u8
+    } else {
+        b'a' + (d as u8 - 10)
+    }
 }
 
 // How many digits n needs, six at most.
