@@ -7,6 +7,7 @@ ghost use Rattle.lines.specs.Reading.{reading};
 ghost use Rattle.chain.specs.Calls.{load, load_text};
 ghost use Rattle.chain.specs.Clauses.{Called};
 ghost use Rattle.bench.specs.Model.{state};
+ghost use Rattle.text.specs.declared.load.TextFault.TheVariants.{Unloaded};
 ghost use Rattle.text.specs.Loads.{fault_in, told_text, Loaded, Whose};
 
 use bench::bench::Bench;
@@ -30,6 +31,14 @@ impl From<TextFault> for Fault {
             TextFault::Unread(fault) => fault,
             TextFault::Unloaded(fault) => fault,
         }
+    }
+}
+
+impl From<Fault> for TextFault {
+    ghost from_gives = { λ f t. t ≡ Unloaded f };
+
+    fn from(value: Fault) -> Self {
+        TextFault::Unloaded(value)
     }
 }
 
@@ -62,5 +71,6 @@ pub fn load_text(
     ensures whose { Whose (reading text.now (lent_room lent.old)) result }
 {
     let counts = read(text, lent).map_err(TextFault::Unread)?;
-    load_front(bench, counts, lent).map_err(TextFault::Unloaded)
+    load_front(bench, counts, lent)?;
+    Ok(())
 }
