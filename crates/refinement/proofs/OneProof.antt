@@ -15,7 +15,7 @@ counted_once m a b = λ i. record {
   start_count = ℕ_set _ _ a.start_count b.start_count i;
 }
 
-mark_once : (w : ℕ) → IsProp (MarkWord w)
+pub mark_once : (w : ℕ) → IsProp (MarkWord w)
 mark_once w (inl a) (inl b) = ap inl (le_prop a b)
 mark_once w (inl a) (inr b) = absurd (omega arith)
 mark_once w (inr a) (inl b) = absurd (omega arith)
