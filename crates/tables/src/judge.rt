@@ -82,12 +82,8 @@ impl SizedTables<'_> {
         ensures { (rest : Verdict) → told_or result rest ≡ each 4 (corner_ok (mesh self.now.tables)) (4 * (mesh self.now.tables).quads) rest }
     {
         let points = self.tables.starts.len();
-        match self
-            .tables
-            .corners
-            .iter()
-            .position(|v| *v as usize >= points)
-        {
+        let no_point = |v: &u32| *v as usize >= points;
+        match self.tables.corners.iter().position(no_point) {
             Some(c) => Err(Fault::NoSuchPoint(Corner(c as u32))),
             None => Ok(()),
         }
@@ -98,12 +94,8 @@ impl SizedTables<'_> {
         ensures { (rest : Verdict) → told_or result rest ≡ each 5 (friend_ok (mesh self.now.tables)) (2 * (mesh self.now.tables).quads) rest }
     {
         let edges = 2 * self.tables.quads();
-        match self
-            .tables
-            .friends
-            .iter()
-            .position(|g| *g as usize >= edges)
-        {
+        let no_edge = |g: &u32| *g as usize >= edges;
+        match self.tables.friends.iter().position(no_edge) {
             Some(o) => Err(Fault::NoSuchEdge(OffEdge(o as u32))),
             None => Ok(()),
         }
@@ -113,12 +105,8 @@ impl SizedTables<'_> {
     fn judge_marks(&self) -> Result<(), Fault>
         ensures { (rest : Verdict) → told_or result rest ≡ each 6 (mark_ok (mesh self.now.tables)) (2 * (mesh self.now.tables).quads) rest }
     {
-        match self
-            .tables
-            .marks
-            .iter()
-            .position(|w| Mark::try_from(*w).is_err())
-        {
+        let no_mark = |w: &u32| Mark::try_from(*w).is_err();
+        match self.tables.marks.iter().position(no_mark) {
             Some(o) => Err(Fault::NoMark(OffEdge(o as u32))),
             None => Ok(()),
         }
