@@ -191,6 +191,7 @@ impl WordedTables<'_> {
         ensures steps { IfOk result (λ n. n ≡ total (valence (mesh self.now.tables)) (mesh self.now.tables).points) }
     {
         let mut steps = 0;
+        // A loop, for it sums and fails at an item: under try_fold the proof that the sum fits did not close.
         for (v, c) in self.tables.starts.iter().enumerate() {
             steps += self
                 .valence(Corner(*c))
