@@ -7,7 +7,7 @@ use mesh::number::{Point, Quad};
 use tables::lent::Tables;
 
 // What may be asked of a bench and the slip that is held beside it.
-#[derive(Clone, Copy)]
+#[derive(Clone, Copy, PartialEq, Eq, Debug)]
 pub enum Request<'s> {
     Begin,
     Load(Tables<'s>),

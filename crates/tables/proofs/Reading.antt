@@ -1,4 +1,4 @@
--- What the words that the tests passed are good for: every off-edge of the tables can be read, and a step from a corner is to a corner.
+-- What the words that the tests passed are good for: the off-edge at every corner of the tables can be read, and a step from a corner is to a corner.
 use Rattle.std.proofs.Common.{◌≡◌, ℕ, suc, ◌+◌, ◌*◌, ◌%◌, ◌<◌, refl, ap, ◌∙◌, arith}
 use Rattle.mesh.specs.Count.{total}
 use Rattle.mesh.specs.Mesh.{Mesh, Sound, friend, off_edge, step, most_quads}
@@ -6,14 +6,12 @@ use Rattle.refinement.proofs.Steps.{off_edge_below}
 use Rattle.tables.specs.Edges.{Reads}
 use Rattle.tables.specs.Passed.{Worded}
 
-pub all_read : (m : Mesh) → Worded m → (o : ℕ) → o < 2 * m.quads → Reads m o
-all_read m w o h =
+pub corner_reads : (m : Mesh) → Worded m → (c o : ℕ) → c < 4 * m.quads → o ≡ off_edge c → Reads m o
+corner_reads m w c o h e =
+    let l = off_edge_below c m.quads h in
     let f = w.sized.counted.friend_count in
     let k = w.sized.counted.mark_count in
-    record { in_corners = h; in_friends = omega arith; in_marks = omega arith; a_mark = w.marks_are_words o h }
-
-pub corner_reads : (m : Mesh) → Worded m → (c o : ℕ) → c < 4 * m.quads → o ≡ off_edge c → Reads m o
-corner_reads m w c o h e = let l = off_edge_below c m.quads h in all_read m w o (omega arith)
+    record { in_corners = omega arith; in_friends = omega arith; in_marks = omega arith; a_mark = w.marks_are_words o (omega arith) }
 
 -- a sound mesh has all that the tests up to 6 tell
 pub sound_worded : (m : Mesh) → Sound m → Worded m

@@ -9,7 +9,7 @@ ghost use Rattle.tables.specs.Lent.{mesh};
 use crate::lent::Tables;
 use mesh::fault::Fault;
 
-#[derive(Clone, Copy)]
+#[derive(Clone, Copy, PartialEq, Eq, Debug)]
 pub struct LawfulTables<'a> {
     pub tables: Tables<'a>,
     pub ghost lawful: { Lawful (mesh tables) } by { lawful_once (mesh tables) },

@@ -5,7 +5,7 @@ pub const FEWEST_QUADS: usize = 2;
 
 pub const MOST_QUADS: usize = 1048576;
 
-#[derive(Clone, Copy)]
+#[derive(Clone, Copy, PartialEq, Eq, Debug)]
 pub struct Tables<'a> {
     // the point of each corner
     pub corners: &'a [u32],

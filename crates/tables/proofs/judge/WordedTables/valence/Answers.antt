@@ -2,17 +2,14 @@ use Rattle.std.proofs.Common.{◌≡◌, suc, ◌+◌, sym, ap, ◌∙◌, arith
 use Rattle.mesh.specs.Mesh.{start, walk}
 use Rattle.refinement.proofs.Loops.{walk_more, walk_first, valence_back, valence_none}
 use Rattle.tables.specs.Lent.{mesh}
-use Rattle.tables.proofs.lent.Tables.valence.Goals as goal
+use Rattle.tables.proofs.judge.WordedTables.valence.Goals as goal
 
 pub loop-steps-init : goal.loop-steps-init
-loop-steps-init c = (c.requires.1, λ v f. walk_first (mesh c.args.self.now) v _ f, λ v f i l. absurd (omega arith))
-
-pub next-corner-requires : goal.next-corner-requires
-next-corner-requires c = (c.requires.0, c.loop-steps.invariant.0)
+loop-steps-init c = (c.requires, λ v f. walk_first (mesh c.args.self.now.tables) v _ f, λ v f i l. absurd (omega arith))
 
 pub loop-steps-preserved : goal.loop-steps-preserved
 loop-steps-preserved c =
-    let m = mesh c.args.self.now in (
+    let m = mesh c.args.self.now.tables in (
       c.next-corner.ensures.below,
       λ v f. walk_more m v _ _ _ (c.loop-steps.invariant.1 v f) c.next-corner.ensures.is,
       λ v f.
@@ -24,7 +21,7 @@ loop-steps-preserved c =
 
 pub returns-then-corner-from : goal.returns-then-corner-from
 returns-then-corner-from c = λ v f.
-    let m = mesh c.args.self.now in (
+    let m = mesh c.args.self.now.tables in (
       valence_back m v c.loop-steps.steps c.loop-steps-test.true
           (sym (walk_more m v _ _ _ (c.loop-steps.invariant.1 v f) c.next-corner.ensures.is) ∙ c.if-corner-from.true ∙ sym f)
           (c.loop-steps.invariant.2 v f),
@@ -32,4 +29,4 @@ returns-then-corner-from c = λ v f.
     )
 
 pub returns : goal.returns
-returns c = λ v f. let e = valence_none (mesh c.args.self.now) v (λ i l. c.loop-steps.invariant.2 v f i (omega arith)) in omega arith
+returns c = λ v f. let e = valence_none (mesh c.args.self.now.tables) v (λ i l. c.loop-steps.invariant.2 v f i (omega arith)) in omega arith

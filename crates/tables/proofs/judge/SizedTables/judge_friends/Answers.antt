@@ -1,0 +1,12 @@
+use Rattle.std.proofs.Common.{rules}
+use Rattle.mesh.specs.Causes.{mesh_of, friend_ok}
+use Rattle.tables.proofs.Passes.{first_at, nowhere}
+use Rattle.tables.proofs.judge.SizedTables.judge_friends.Goals as goal
+
+pub returns-in-Some : goal.returns-in-Some
+unfolding mesh_of friend_ok
+returns-in-Some c = first_at _ _ _ _ (search rules) (search rules) (λ i l. search rules)
+
+pub returns-in-None : goal.returns-in-None
+unfolding mesh_of friend_ok
+returns-in-None c = nowhere _ _ _ (λ i l. search rules)
