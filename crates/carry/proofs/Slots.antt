@@ -12,11 +12,16 @@ use Rattle.carried.proofs.Ranges.{values_length}
 use Rattle.carry.specs.Mixes.{blend}
 use Rattle.carry.specs.Slots.{RightAt}
 
+-- a value that is due at slot s is due at its number t
+pub due_at : {V : Type 0} (blended : List (V × ℕ) → V) (m : Mesh) (xs : List V) (n t s : ℕ) (v : V) (ps : List (ℕ × ℕ)) →
+    v ≡ blend blended xs ps → t ≡ s → s < n → parts m s ≡ ps → (t < n) × (v ≡ blend blended xs (parts m t))
+due_at blended m xs n t s v ps made e l due = (omega arith, made ∙ ap (blend blended xs) (sym (ap (parts m) e ∙ due)))
+
 module _ {V R : Type 0} (row : V → R) (blended : List (V × ℕ) → V) (m : Mesh) (xs : List V) where
   -- a right row written at slot t makes that slot right, and no other wrong
-  module _ (out out' : List R) (t : ℕ) (v : V) (ps : List (ℕ × ℕ)) (l : t < length out) (is : out' ≡ set out t (row v)) (made : v ≡ blend blended xs ps) (due : parts m t ≡ ps) where
+  module _ (out out' : List R) (t : ℕ) (v : V) (l : t < length out) (is : out' ≡ set out t (row v)) (due : v ≡ blend blended xs (parts m t)) where
     put_right : RightAt row blended m xs out' t
-    put_right d = ap (λ o. get_or o t d) is ∙ get_or-set_same out t (row v) d l ∙ ap row made ∙ ap (λ ps. row (blend blended xs ps)) (sym due)
+    put_right d = ap (λ o. get_or o t d) is ∙ get_or-set_same out t (row v) d l ∙ ap row due
 
     pub put_keeps : (s : ℕ) → RightAt row blended m xs out s → RightAt row blended m xs out' s
     put_keeps s h = elim (cases_eq s t) [
@@ -24,13 +29,13 @@ module _ {V R : Type 0} (row : V → R) (blended : List (V × ℕ) → V) (m : M
       | inr ne ↦ λ d. ap (λ o. get_or o s d) is ∙ get_or-set_other out t s (row v) d ne ∙ h d
     ]
 
-    pub put_right_at : (s : ℕ) → t ≡ s → RightAt row blended m xs out' s
-    put_right_at s e = subst (RightAt row blended m xs out') e put_right
-
-    -- slots given by their number, one more of them right
-    pub put_more : (slot : ℕ → ℕ) (i : ℕ) → slot i ≡ t → ((k : ℕ) → k < i → RightAt row blended m xs out (slot k)) → (k : ℕ) → k < i + 1 → RightAt row blended m xs out' (slot k)
-    put_more slot i e h =
-        below_more (λ k. RightAt row blended m xs out' (slot k)) i (λ k lt. put_keeps (slot k) (h k lt)) (subst (RightAt row blended m xs out') (sym e) put_right)
+    -- values made for numbers, one more of them at its slot
+    pub put_more : (Made : ℕ → V × ℕ → Type 0) (i : ℕ) → Made i (v, t) → ((k : ℕ) → k < i → (r : V × ℕ) × Made k r × RightAt row blended m xs out r.1) →
+        (k : ℕ) → k < i + 1 → (r : V × ℕ) × Made k r × RightAt row blended m xs out' r.1
+    put_more Made i this before =
+        below_more (λ k. (r : V × ℕ) × Made k r × RightAt row blended m xs out' r.1) i
+        (λ k lt. let b = before k lt in (b.0, b.1, put_keeps b.0.1 b.2))
+        ((v, t), this, put_right)
 
   -- a table with every slot right
   pub all_right : Lawful m → (out : List R) → length out ≡ m.points + 3 * m.quads →

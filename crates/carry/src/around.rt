@@ -65,6 +65,7 @@ pub(crate) fn around<'a>(level: &LawfulTables<'a>, point: Point) -> Around
     let start = level.tables.starts[point.0 as usize];
     let mut corner = Corner(start);
     let mut seen = Around::none();
+    // a walk of a length that is known once it is back
     loop {
         let (mark, next) = marked_step(level, corner);
         seen = seen.more(mark);

@@ -63,6 +63,7 @@ pub(crate) fn carry<'a, C: CornerKind>(
             room: out.len(),
         },
     )?;
+    // by number: after a loop over chunks of `out`, which was tried, a proof knows nothing of what they hold
     for q in 0..quads {
         put_quad(&rows, q, out);
     }

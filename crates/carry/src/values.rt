@@ -1,11 +1,12 @@
 // Values of the next level: a row for each old point, each quad and each off-edge.
 // Each pass writes the slots of its own kind, and leaves every slot right that was right.
-ghost use Rattle.std.specs.Prelude.{◌≡◌, ℕ, ◌+◌, ◌*◌, ◌<◌, map, length, MatchResult, slice_set};
-ghost use Rattle.carried.specs.Blends.{values as values_of};
+ghost use Rattle.std.specs.Prelude.{◌≡◌, ℕ, ◌+◌, ◌*◌, ◌<◌, map, length, MatchResult};
+ghost use Rattle.carried.specs.Blends.{edge as edge_parts, face as face_parts, moved as moved_parts, parts, values as values_of};
 ghost use Rattle.mesh.specs.Mesh.{friend as friend_of};
 ghost use Rattle.mesh.specs.Refusals.{told};
 ghost use Rattle.refinement.specs.Tasks.{edge_slot, face_slot, old_slot};
 ghost use Rattle.tables.specs.Lent.{mesh};
+ghost use Rattle.carry.specs.Mixes.{blend};
 ghost use Rattle.carry.specs.Rows.{made, refusal};
 ghost use Rattle.carry.specs.Slots.{RightAt};
 
@@ -19,48 +20,17 @@ use mesh::number::{OffEdge, Point, Quad};
 use tables::lawful::LawfulTables;
 use tables::slot::{edge_slot, face_slot, old_slot};
 
-// Writes the row of a value.
-fn put<K: Rowed>(out: &mut [K::Row], slot: usize, value: &K)
-    requires { slot < length out.old }
-    ensures { out.new ≡ slice_set out.old slot (K.Rowed.row value.now) }
-{
-    out[slot] = value.to_row();
-}
-
 impl<'a, 'r, K: ValueKind> Valued<'a, 'r, K> {
-    fn put_moved(&self, out: &mut [K::Row])
-        requires room { length out.old ≡ (mesh self.now.level.tables).points + 3 * (mesh self.now.level.tables).quads }
-        ensures { (v : ℕ) → v < (mesh self.now.level.tables).points → RightAt K.Rowed.row K.blended (mesh self.now.level.tables) (made K.Rowed.verdict self.now.rows.rows.now) out.new (old_slot (mesh self.now.level.tables) v) }
-    {
-        let quads = self.level.tables.quads() as u32;
-        for v in 0..self.level.tables.starts.len() {
-            let point = Point(v as u32);
-            let value = self.moved(point);
-            put(out, old_slot(quads, point), &value);
-        }
-    }
-
-    fn put_faces(&self, out: &mut [K::Row])
-        requires room { length out.old ≡ (mesh self.now.level.tables).points + 3 * (mesh self.now.level.tables).quads }
+    // Writes for each number the row of its value at its slot. The body reads no `self`: it names the level for which the clauses say a row is right.
+    fn put_each<F: Fn(u32) -> (K, usize)>(&self, out: &mut [K::Row], count: u32, at: F)
+        requires callable { (n : ℕ) → n < count → F.pre at n }
+        requires due { (n : ℕ) (r : _) → n < count → F.post at n r → (r.1 < length out.old) × (r.0 ≡ blend K.blended (made K.Rowed.verdict self.now.rows.rows.now) (parts (mesh self.now.level.tables) r.1)) }
         ensures kept { (s : ℕ) → RightAt K.Rowed.row K.blended (mesh self.now.level.tables) (made K.Rowed.verdict self.now.rows.rows.now) out.old s → RightAt K.Rowed.row K.blended (mesh self.now.level.tables) (made K.Rowed.verdict self.now.rows.rows.now) out.new s }
-        ensures right { (q : ℕ) → q < (mesh self.now.level.tables).quads → RightAt K.Rowed.row K.blended (mesh self.now.level.tables) (made K.Rowed.verdict self.now.rows.rows.now) out.new (face_slot q) }
+        ensures right { (n : ℕ) → n < count → (r : _) × F.post at n r × RightAt K.Rowed.row K.blended (mesh self.now.level.tables) (made K.Rowed.verdict self.now.rows.rows.now) out.new r.1 }
     {
-        for q in 0..self.level.tables.quads() {
-            let quad = Quad(q as u32);
-            let value = self.face(quad);
-            put(out, face_slot(quad), &value);
-        }
-    }
-
-    fn put_edges(&self, out: &mut [K::Row])
-        requires room { length out.old ≡ (mesh self.now.level.tables).points + 3 * (mesh self.now.level.tables).quads }
-        ensures kept { (s : ℕ) → RightAt K.Rowed.row K.blended (mesh self.now.level.tables) (made K.Rowed.verdict self.now.rows.rows.now) out.old s → RightAt K.Rowed.row K.blended (mesh self.now.level.tables) (made K.Rowed.verdict self.now.rows.rows.now) out.new s }
-        ensures right { (o : ℕ) → o < 2 * (mesh self.now.level.tables).quads → RightAt K.Rowed.row K.blended (mesh self.now.level.tables) (made K.Rowed.verdict self.now.rows.rows.now) out.new (edge_slot (friend_of (mesh self.now.level.tables) o)) }
-    {
-        for o in 0..2 * self.level.tables.quads() {
-            let off = OffEdge(o as u32);
-            let value = self.edge(off);
-            put(out, edge_slot(edge(&self.level, off).friend), &value);
+        for n in 0..count {
+            let (value, slot) = at(n);
+            out[slot] = value.to_row();
         }
     }
 }
@@ -86,8 +56,36 @@ pub(crate) fn carry<'a, K: ValueKind>(
         },
     )?;
     let valued = Valued { level, rows };
-    valued.put_moved(out);
-    valued.put_faces(out);
-    valued.put_edges(out);
+    let quads = quads as u32;
+    valued.put_each(
+        out,
+        points as u32,
+        |v|
+            requires { v < (mesh valued.level.tables).points }
+            ensures value { result.0 ≡ blend K.blended (made K.Rowed.verdict valued.entry.rows.rows.now) (moved_parts (mesh valued.entry.level.tables) v) }
+            ensures slot { (mesh valued.entry.level.tables).quads ≡ quads → result.1 ≡ old_slot (mesh valued.entry.level.tables) v }
+        { (valued.moved(Point(v)), old_slot(quads, Point(v))) },
+    );
+    valued.put_each(
+        out,
+        quads,
+        |q|
+            requires { q < (mesh valued.level.tables).quads }
+            ensures value { result.0 ≡ blend K.blended (made K.Rowed.verdict valued.entry.rows.rows.now) (face_parts (mesh valued.entry.level.tables) q) }
+            ensures slot { result.1 ≡ face_slot q }
+        { (valued.face(Quad(q)), face_slot(Quad(q))) },
+    );
+    valued.put_each(
+        out,
+        2 * quads,
+        |o|
+            requires { o < 2 * (mesh valued.level.tables).quads }
+            ensures value { result.0 ≡ blend K.blended (made K.Rowed.verdict valued.entry.rows.rows.now) (edge_parts (mesh valued.entry.level.tables) o) }
+            ensures slot { result.1 ≡ edge_slot (friend_of (mesh valued.entry.level.tables) o) }
+        {
+            let friend = edge(&valued.level, OffEdge(o)).friend;
+            (valued.edge(OffEdge(o)), edge_slot(friend))
+        },
+    );
     Ok(())
 }
