@@ -86,6 +86,7 @@ impl ValueKind for Coordinates {
 
     ghost weighs = { λ m ps s. s.weight_is };
 
+    // Field by field: Default cannot be derived over a ghost field, as the mix and its weight have, and by hand it is this with a contract more.
     fn start() -> CoordinatesMix {
         CoordinatesMix {
             x: 0,
