@@ -1,27 +1,23 @@
-// A bench made over lent words and asked by rows of numbers, one after the other.
+// Requests and answers as rows of numbers, in which a program in Rust or C asks a bench.
 #![tactic(auto)]
 
-ghost use Rattle.std.specs.Prelude.{◌≡◌, None as nothing, length, map};
-ghost use Rattle.chain.specs.Calls.{made};
-ghost use Rattle.chain.specs.Clauses.{run_on};
+ghost use Rattle.std.specs.Prelude.{◌≡◌};
 ghost use Rattle.layout.specs.Layout.{block};
-ghost use Rattle.requests.specs.Sessions.{all_calls, asked, over, replies, told_reply};
+ghost use Rattle.requests.specs.Sessions.{asked, told_reply};
 ghost use Rattle.requests.specs.declared.request.Answer.{Answer};
-ghost use Rattle.exported.specs.Benches.{copied};
-ghost use Rattle.exported_work.specs.Works.{asked_by, numbers_of, requests_of};
+ghost use Rattle.exported_work.specs.Works.{asked_by, numbers_of};
 
-use bench::bench::Bench;
-use exported::benches::copy_standing;
 use mesh::number::{Point, Quad};
 use requests::form::Form;
-use requests::perform::work_in;
 use requests::request::{Answer, Request};
 use tables::lent::Tables;
 
-// Rows and answers of numbers. A load says where its four tables begin in this store of words, side by side, and how many words each has.
+// A row has its kind in front: 0 a load, 1 a begin, 2 the task of a quad, 3 that of a point, 4 a finish, and each other kind a withdraw.
+// Then comes the number of the quad or the point, or the place in the store where the four tables of a load begin, side by side; then how many words each of these has.
+// An answer is 0 for no call, 1 for done, 2 and the tasks that are left, or 3 and the number and the place of a refusal; what it lacks of three numbers is 0.
 #[derive(Clone, Copy)]
-struct Numbers<'s> {
-    store: &'s [u32],
+pub struct Numbers<'s> {
+    pub store: &'s [u32],
 }
 
 impl<'s> Numbers<'s> {
@@ -77,22 +73,4 @@ impl<'s> Form<'s> for Numbers<'s> {
             Answer::Refused(fault) => [3, u32::from(fault.number()), fault.place()],
         }
     }
-}
-
-// Makes a bench over these words and asks it row by row, as many rows as there is room for answers; a slip that is still held then is withdrawn.
-// What stands at the end is copied to `out`.
-pub fn mesh_work(
-    words: &mut [u32],
-    mark: u32,
-    store: &[u32],
-    rows: &[[u32; 6]],
-    answers: &mut [[u32; 3]],
-    out: &mut [u32],
-)
-    ensures gave { answers.new ≡ over (map numbers_of (replies (record { bench = made (length words.old) mark; held = nothing }) (requests_of store.now (length answers.old) rows.now))) answers.old }
-    ensures level { out.new ≡ copied (run_on (made (length words.old) mark) (all_calls (made (length words.old) mark) (requests_of store.now (length answers.old) rows.now))).standing out.old }
-{
-    let mut bench = Bench::new(words, mark);
-    work_in(&mut bench, &Numbers { store }, rows, answers);
-    copy_standing(&bench, out);
 }

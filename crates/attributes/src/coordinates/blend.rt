@@ -54,16 +54,10 @@ impl Rowed for Coordinates {
 
     fn make(from: &[i32; 3]) -> Result<Coordinates, u32> {
         let [x, y, z] = *from;
-        if !is_limited(x) {
-            return Err(0);
+        match from.iter().position(|at| !is_limited(*at)) {
+            None => Ok(Coordinates { x, y, z }),
+            Some(i) => Err(i as u32),
         }
-        if !is_limited(y) {
-            return Err(1);
-        }
-        if !is_limited(z) {
-            return Err(2);
-        }
-        Ok(Coordinates { x, y, z })
     }
 
     fn to_row(&self) -> [i32; 3] {
@@ -92,6 +86,7 @@ impl ValueKind for Coordinates {
 
     ghost weighs = { λ m ps s. s.weight_is };
 
+    // Field by field: Default cannot be derived over a ghost field, as the mix and its weight have, and by hand it is this with a contract more.
     fn start() -> CoordinatesMix {
         CoordinatesMix {
             x: 0,

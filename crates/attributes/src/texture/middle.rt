@@ -46,13 +46,10 @@ impl Rowed for Texture {
 
     fn make(from: &[f32; 2]) -> Result<Texture, u32> {
         let [u, v] = *from;
-        if !is_lawful(u) {
-            return Err(0);
+        match from.iter().position(|at| !is_lawful(*at)) {
+            None => Ok(Texture { u, v }),
+            Some(i) => Err(i as u32),
         }
-        if !is_lawful(v) {
-            return Err(1);
-        }
-        Ok(Texture { u, v })
     }
 
     fn to_row(&self) -> [f32; 2] {
