@@ -2,6 +2,11 @@
 use Rattle.std.proofs.Common.{◌≡◌, ℕ, suc, ◌+◌, ◌-◌, ◌<◌, List, [], ◌∷◌, ◌++◌, length, get_or, Some, None, Option, sym, refl, ap, ◌∙◌, arith}
 use Rattle.lines.specs.Reading.{Rows, good, bad, after, line, lines}
 
+pub one_word : (xs : List ℕ) (d : ℕ) → length xs ≡ 1 → get_or xs 0 d ∷ [] ≡ xs
+one_word [] d e = absurd (omega arith)
+one_word (x ∷ []) d e = refl
+one_word (x ∷ (y ∷ xs)) d e = absurd (omega arith)
+
 pub two_words : (xs : List ℕ) → length xs ≡ 2 → xs ≡ get_or xs 0 0 ∷ (get_or xs 1 0 ∷ [])
 two_words [] e = absurd (omega arith)
 two_words (x ∷ []) e = absurd (omega arith)

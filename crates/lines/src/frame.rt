@@ -21,6 +21,7 @@ fn digit(b: u8) -> Option<u32>
 fn run(s: &[u8]) -> (u32, usize)
     ensures { Run s.now result.0 result.1 }
 {
+    // By index: a `for` over the slice of these bytes made reading a fifth slower; a chain by `map_while` and `fold` is as fast, but leaves two goals open.
     let mut n = 0;
     for i in 0..7 {
         let Some(d) = s.get(i).and_then(|b| digit(*b)) else {

@@ -1,5 +1,5 @@
 // The four tables that a text is read into, lent by whoever holds them.
-ghost use Rattle.std.specs.Prelude.{◌≡◌, ℕ, ◌+◌, ◌*◌, ◌≤◌, List, ◌++◌, length, take, drop, MatchOption};
+ghost use Rattle.std.specs.Prelude.{◌≡◌, ℕ, ◌+◌, ◌*◌, ◌≤◌, List, ◌++◌, length, take, drop, IsSome, MatchOption};
 ghost use Rattle.std.specs.List.{flat_map};
 ghost use Rattle.mesh.specs.Mesh.{Mesh};
 ghost use Rattle.lines.specs.Laws.{HasRoom};
@@ -9,6 +9,7 @@ ghost use Rattle.lines.specs.Reading.{lines, good, accepted, body_read, roomy, l
 use crate::frame::read_line;
 use crate::kind::Kind;
 use crate::reader::Counts;
+use std::slice;
 
 #[derive(Drop)]
 pub struct TablesMut<'a> {
@@ -18,7 +19,7 @@ pub struct TablesMut<'a> {
     pub starts: &'a mut [u32],
 }
 
-// Writes words over a part of a table.
+// Writes words over a part of a table. The words of a bench are written by the same line in its own crate: a public function of this would have to ask for room, and those that are public ask for nothing.
 fn lay(table: &mut [u32], at: usize, words: &[u32])
     requires { at + length words.now ≤ length table.old }
     ensures { table.new ≡ take at table.old ++ (words.now ++ drop (at + length words.now) table.old) }
@@ -57,31 +58,25 @@ impl TablesMut<'_> {
         Some(rest)
     }
 
-    // Fills the tables from lines that were judged.
-    pub(crate) fn fill(&mut self, body: &[u8], counts: Counts)
+    // Fills the tables; Some where the lines are those of a mesh.
+    pub(crate) fn fill(&mut self, body: &[u8], counts: Counts) -> Option<()>
         requires { HasRoom counts.quads counts.points (lent_room self.old) }
         ensures same { Same self.old self.new }
-        ensures filled { (m : Mesh) → body_read counts.quads counts.points body.now ≡ accepted m → HoldsIn (accepted m) self.old self.new }
+        ensures filled { (m : Mesh) → body_read counts.quads counts.points body.now ≡ accepted m → IsSome result × HoldsIn (accepted m) self.old self.new }
     {
-        let Some(points) = self.fill_quads(body, counts) else {
-            return;
-        };
-        fill_starts(points, counts.points, self.starts);
+        let points = self.fill_quads(body, counts)?;
+        fill_starts(points, counts.points, self.starts)
     }
 }
 
-// Fills the table of starts from the lines of the points.
-fn fill_starts(text: &[u8], count: u32, starts: &mut [u32])
+// Fills the front of the starts from the lines of the points.
+fn fill_starts(text: &[u8], count: u32, starts: &mut [u32]) -> Option<()>
     requires { count ≤ length starts.old }
-    ensures { (rows : List (List ℕ)) (t : List ℕ) → lines 48 50 1 count text.now ≡ good rows t → starts.new ≡ laid (flat_map (λ ns. ns) rows) starts.old }
+    ensures { (rows : List (List ℕ)) (t : List ℕ) → lines 48 50 1 count text.now ≡ good rows t → IsSome result × (starts.new ≡ laid (flat_map (λ ns. ns) rows) starts.old) }
 {
-    let mut row = [0u32; 1];
     let mut rest = text;
-    for v in 0..count as usize {
-        let Some(more) = read_line(rest, Kind::Start, &mut row) else {
-            return;
-        };
-        lay(starts, v, &row);
-        rest = more;
+    for start in starts[..count as usize].iter_mut() {
+        rest = read_line(rest, Kind::Start, slice::from_mut(start))?;
     }
+    Some(())
 }

@@ -84,7 +84,8 @@ pub fn read(text: &[u8], tables: &mut TablesMut<'_>) -> Result<Counts, Fault>
         return Err(Fault::TooShort);
     }
     judge(body, counts)?;
-    tables.fill(body, counts);
+    // every line was judged
+    tables.fill(body, counts).unwrap();
     Ok(counts)
 }
 

@@ -17,7 +17,7 @@ use text::write::write_text;
 // The longest input that is looked at.
 pub const LONGEST_INPUT: usize = 9802;
 
-// Room for 192 quads and 384 points, and the working words to refine such a mesh once.
+// Room for 192 quads and 384 points, and the working words to refine such a mesh once. Fixed, since the library has no heap, and a caller in C lends no tables.
 const QUADS: usize = 192;
 
 const POINTS: usize = 384;

@@ -79,7 +79,7 @@ impl Writer<'_> {
         ensures { Wrote self.old (digits count n) self.new }
     {
         let end = self.at + count;
-        // the last digit first, since that is the one at hand
+        // The last digit first, since that is the one at hand. By index: of bytes that `iter_mut().rev()` went over nothing is known afterwards.
         let mut left = n;
         for place in (self.at..end).rev() {
             self.out[place] = hex(left % 16);

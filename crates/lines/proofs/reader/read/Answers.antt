@@ -53,6 +53,9 @@ fill-requires c =
     let h = roomy_parts c.in_ok-counts.counts.quads c.in_ok-counts.counts.points (lent_room c.args.tables.now) (sym c.has_room.ensures ∙ c.if-not-has_room.false) in
     record { corners_fit = h.0; friends_fit = h.1; marks_fit = h.2; starts_fit = h.3 }
 
+pub unwrap-requires : goal.unwrap-requires
+unwrap-requires c = let j = c.in_ok-judge.ensures in (c.fill.ensures.filled j.0 j.1).0
+
 pub returns : goal.returns
 unfolding mesh_read
 returns c =
@@ -66,5 +69,5 @@ returns c =
     let e = w ∙ j.1 in
     let P : Reading → Type 0 = λ x. HoldsIn x t c.fill.new.self in
     let a = ap (λ (m : Mesh). answer (accepted m)) (sym b.mesh_is) ∙ ap answer (sym e) in
-    let h = subst P (sym e) (c.fill.ensures.filled j.0 j.1) in
+    let h = subst P (sym e) (c.fill.ensures.filled j.0 j.1).1 in
     record { same = c.fill.ensures.same; answer = a; tables = h; images = images _ _ _ _ _ _ _ _ _ _ a h }
