@@ -4,6 +4,8 @@ ghost use Rattle.kinds.specs.Parts.{Each, most_weight, taken, total};
 
 use crate::row::Rowed;
 
+pub use crate::weight::MOST_WEIGHT;
+
 // A part is a value with a whole weight. The parts of a blend are added one by one to a running mix, so that no code
 // holds the list; `holds` says of which list a mix is made.
 pub trait ValueKind: Rowed {

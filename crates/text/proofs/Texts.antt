@@ -1,10 +1,10 @@
 -- A text that is read is loaded as the mesh that its tables then hold.
-use Rattle.std.proofs.Common.{◌≡◌, ℕ, ◌*◌, ◌/◌, List, length, take, drop, false, Some, Ok, Err, Result, sym, refl, ap, ◌∙◌, subst, arith}
+use Rattle.std.proofs.Common.{◌≡◌, ℕ, ◌*◌, ◌/◌, List, length, take, drop, false, Some, Ok, Err, Result, MatchResult, sym, refl, ap, ◌∙◌, subst, arith}
 use Rattle.std.specs.Result.{is_ok, IsErr}
 use Rattle.std.proofs.lemmas.List.{take_at}
 use Rattle.mesh.specs.Mesh.{Mesh}
 use Rattle.mesh.specs.Causes.{mesh_of}
-use Rattle.mesh.specs.Refusals.{Verdict, fine, declined, number_of, place_of}
+use Rattle.mesh.specs.Refusals.{Verdict, fine, declined, told, number_of, place_of}
 use Rattle.mesh.specs.declared.fault.Fault.{Fault}
 use Rattle.lines.specs.Laws.{TextOf, HasRoom}
 use Rattle.lines.specs.Reading.{Room, Reading, accepted, refused, reading, answer, laid, Holds}
@@ -43,6 +43,11 @@ unread_call s bytes r n (Err (Unloaded f)) a k i w =
     let z = k ∙ ap is_ok (a ∙ ap answer w.1) in
     let q : ◌≡◌ {A = ℕ} 0 1 = cc in
     absurd (omega arith)
+
+-- what a load answered, with its refusals as those of what was read
+pub told_as_text : {A : Type 0} (a : Result A Fault) (b : Result A TextFault) → MatchResult a (λ x. b ≡ Ok x) (λ f. b ≡ Err (Unloaded f)) → told a ≡ told_text b
+told_as_text (Ok x) b h = ap told_text (sym h)
+told_as_text (Err f) b h = ap told_text (sym h)
 
 module _ (m : Mesh) (bytes : List ℕ) (r : Room) (e : reading bytes r ≡ accepted m) where
   told_text_of : TextOf m bytes × HasRoom m.quads m.points r
