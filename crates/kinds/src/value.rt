@@ -3,7 +3,6 @@ ghost use Rattle.std.specs.Prelude.{◌≡◌, ℕ, ◌+◌, ◌<◌, ◌≤◌,
 ghost use Rattle.kinds.specs.Parts.{Each, most_weight, taken, total};
 
 use crate::row::Rowed;
-
 pub use crate::weight::MOST_WEIGHT;
 
 // A part is a value with a whole weight. The parts of a blend are added one by one to a running mix, so that no code
