@@ -10,7 +10,7 @@ use mesh::fault::Fault;
 
 pub mod benches;
 
-// The number and the place of a refusal; both are 0 where nothing is refused.
+// The number and the place of a refusal; both are 0 where nothing is refused. The two below repeat them flat, since C reads them so.
 #[repr(C)]
 #[derive(Clone, Copy)]
 pub struct Refusal {

@@ -1,5 +1,5 @@
 // Calls for a program in Rust or C that compares the built code with an implementation of its own, or times it.
-// The C interface has the four tables as slices apart, and answers in numbers.
+// The C interface has the four tables as slices apart, answers in numbers, and has no type parameters: one call for each kind.
 #![tactic(auto)]
 
 ghost use Rattle.attributes.specs.Colours.{middle_of as colour_middle, row_of as colour_row, verdict_of as colour_verdict};

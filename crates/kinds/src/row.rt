@@ -13,6 +13,7 @@ pub trait Rowed: Copy {
 
     ghost row: { Self → Self.Row };
 
+    // Not TryFrom and From: the law below speaks of both.
     fn make(from: &Self::Row) -> Result<Self, u32>
         ensures { result ≡ verdict from.now };
 

@@ -85,7 +85,7 @@ impl Fault {
         }
     }
 
-    // The place of the cause, and 0 where it has none.
+    // The place of the cause; 0 where it has none, since a frame and the C interface always have a number there.
     pub fn place(&self) -> u32
         ensures { result ≡ place_of self.now }
     {
@@ -136,6 +136,7 @@ impl Fault {
     }
 }
 
+// Not by the derive of `thiserror`: what is printed begins with number and place, which are methods, and the text for each cause stands in `meaning`.
 impl fmt::Display for Fault {
     fn fmt<W: fmt::Write>(&self, f: &mut fmt::Formatter<W>) -> fmt::Result {
         let number = self.number();

@@ -32,6 +32,7 @@ pub struct NotSemiSharp(pub u16);
 #[derive(Clone, Copy, PartialEq, Eq, Hash, Debug)]
 pub struct UnknownMark(pub u32);
 
+// By hand, here and below: one line each, no kit crate for them.
 impl fmt::Display for NotSemiSharp {
     fn fmt<W: fmt::Write>(&self, f: &mut fmt::Formatter<W>) -> fmt::Result {
         write!(f, "no semi-sharp edge has {} 256ths", self.0)

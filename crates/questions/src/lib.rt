@@ -23,7 +23,7 @@ pub trait Questions {
     fn lend(&self, level: Level) -> Result<Tables<'_>, Fault>
         ensures { Lends (asked self.now) level result };
 
-    // How many quads and points a level has.
+    // How many quads and points a level has. The `Counts` of a text would be no plainer: each caller takes the pair apart where it asks.
     fn counts(&self, level: Level) -> Result<(u32, u32), Fault>
         ensures { Tells (asked self.now) level (λ m. 1) 0 CountsAre result }
     {
@@ -31,7 +31,7 @@ pub trait Questions {
         Ok((tables.quads() as u32, tables.starts.len() as u32))
     }
 
-    // The point of a corner.
+    // The point of a corner. `start` is alike in another table, but has a word of its own kind to answer: a helper would be the same three lines and a contract.
     fn corner(&self, level: Level, corner: Corner) -> Result<Point, Fault>
         ensures { Tells (asked self.now) level (λ m. 4 * m.quads) corner.0 (CornerIs corner.0) result }
     {
@@ -43,7 +43,7 @@ pub trait Questions {
         Ok(Point(*point))
     }
 
-    // The points where an edge begins and ends.
+    // The points where an edge begins and ends. `quad_points` is alike with four: what they share is `get`.
     fn edge(&self, level: Level, edge: Edge) -> Result<(Point, Point), Fault>
         ensures { Tells (asked self.now) level (λ m. 2 * m.quads) edge.0 (EdgeIs edge.0) result }
     {

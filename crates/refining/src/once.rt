@@ -25,6 +25,7 @@ fn run_each<F: Fn(&mut Bench<'_>, u32) -> Result<u32, Fault>>(
     ensures { state bench.new ≡ run_on (state bench.old) (map call (range_with_len 0 count)) }
 {
     for number in 0..count {
+        // its answer is not needed: the clauses say what stands after each call
         let _ = run(bench, number);
     }
 }

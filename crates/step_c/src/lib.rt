@@ -1,4 +1,4 @@
-// The step on bytes, for a caller in C.
+// The step on bytes, for a caller in C. It only passes on: the program `refine` makes the same call, and a static library can be used by no crate.
 #![tactic(auto)]
 
 ghost use Rattle.step.specs.Step.{Answers, step_text};

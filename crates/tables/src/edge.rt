@@ -74,6 +74,7 @@ impl<'a> Tables<'a> {
         if quads > MOST_QUADS || record.friend.0 as usize >= 2 * quads {
             return None;
         }
+        // A public method of the record would have to ask that the friend is an edge, so that the number fits.
         Some(Corner(2 * record.friend.0 + corner.0 % 2))
     }
 }

@@ -76,6 +76,8 @@ impl<'a> Tables<'a> {
     }
 }
 
+// Five passes match the first place that fails. One function over a test and a fault would be that match with two closures more, and a clause over their posts.
+// Under map_or one goal holds both outcomes, and its proof did not close.
 impl SizedTables<'_> {
     // 4: every corner names a point.
     fn judge_corners(&self) -> Result<(), Fault>
@@ -175,6 +177,7 @@ impl WordedTables<'_> {
         ensures { (v : ℕ) → start (mesh self.now.tables) v ≡ from.0 → MatchOption result (longest < valence (mesh self.now.tables) v) (λ n. (n ≡ valence (mesh self.now.tables) v) × (n ≤ longest)) }
     {
         let mut corner = from;
+        // The steps of the walk up to `corner`: counted from 1 to 64, its invariant would speak of one step less.
         for steps in 0..LONGEST {
             corner = self.next(corner);
             if corner.0 == from.0 {

@@ -54,6 +54,7 @@ impl Rowed for Coordinates {
 
     fn make(from: &[i32; 3]) -> Result<Coordinates, u32> {
         let [x, y, z] = *from;
+        // A match: under map_or_else the closure that makes the value does not know that its numbers passed, and its proof did not close.
         match from.iter().position(|at| !is_limited(*at)) {
             None => Ok(Coordinates { x, y, z }),
             Some(i) => Err(i as u32),
@@ -86,7 +87,7 @@ impl ValueKind for Coordinates {
 
     ghost weighs = { λ m ps s. s.weight_is };
 
-    // Field by field: Default cannot be derived over a ghost field, as the mix and its weight have, and by hand it is this with a contract more.
+    // Field by field: Default cannot be derived over a ghost field, and an impl by hand is these lines and one contract more.
     fn start() -> CoordinatesMix {
         CoordinatesMix {
             x: 0,

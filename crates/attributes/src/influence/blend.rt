@@ -44,6 +44,7 @@ impl ValueKind for Influence {
 
     ghost weighs = { λ m ps s. s.weight_is };
 
+    // `start` and `add` are alike for coordinates: one trait's methods, each over the fields of its own mix.
     fn start() -> InfluenceMix {
         InfluenceMix {
             bits: 0,

@@ -46,6 +46,7 @@ impl Rowed for Texture {
 
     fn make(from: &[f32; 2]) -> Result<Texture, u32> {
         let [u, v] = *from;
+        // Alike for coordinates: one trait's method over other numbers, each with a test of its own.
         match from.iter().position(|at| !is_lawful(*at)) {
             None => Ok(Texture { u, v }),
             Some(i) => Err(i as u32),
