@@ -28,6 +28,7 @@ fn fallen_mark(word: u32) -> u32
 }
 
 // The task of a quad: the quad, and the friends of its two off-edges.
+// It takes the words and a place: a task writes to places all over, not one after the other as a writer does.
 #[derive(Clone, Copy)]
 struct QuadTask {
     size: Size,
@@ -62,7 +63,8 @@ impl QuadTask {
         ]
     }
 
-    // What it writes to the friends that begin at word `at`.
+    // What it writes to the friends that begin at word `at`. `put_marks` writes other words to the same places, four of them of its
+    // own kind: a table of places and words would be made for this one use.
     fn put_friends(self, cells: &mut [u32], at: usize)
         requires { at + 8 * self.size.quads ≤ length cells.old }
         ensures { cells.new ≡ put (shifted at (friends_by self.q self.g0 self.g1)) cells.old }
@@ -109,7 +111,7 @@ impl QuadTask {
     }
 }
 
-// Writes xs over the words from `at` on.
+// Writes xs over the words from `at` on. The same line as `lay` in `lines`; why, stands there.
 fn copy_in(cells: &mut [u32], at: usize, xs: &[u32])
     requires { at + length xs.now ≤ length cells.old }
     ensures { cells.new ≡ laid cells.old at xs.now }
@@ -118,6 +120,7 @@ fn copy_in(cells: &mut [u32], at: usize, xs: &[u32])
 }
 
 // The lent words, in a struct of their own: while they are written, what a bench keeps of them does not hold.
+// Its regions lie in one lent slice, found by arithmetic: the library has no heap, and its maker lends the words.
 #[derive(Drop)]
 pub struct Words<'a> {
     pub cells: &'a mut [u32],
