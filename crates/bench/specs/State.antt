@@ -60,9 +60,13 @@ pub record Lengths (t : Tables) (s : Size) : Type 0 where
   pub marks : length t.marks.now ≡ 2 * s.quads
   pub starts : length t.starts.now ≡ s.points
 
+-- there is room for a level in work above one of size s
+abbrev pub RoomAbove : Size → List ℕ → Type 0
+RoomAbove s ws = 44 * s.quads + 3 * s.points ≤ length ws
+
 -- what a task asks of the words below it: that there are enough of them, and that those of the standing level are in range
 pub record Ready (s : Size) (ws : List ℕ) : Type 0 where
-  pub room : 44 * s.quads + 3 * s.points ≤ length ws
+  pub room : RoomAbove s ws
   pub range : InRange (standing_in ws s.quads s.points)
 
 -- the bench b has a level in work above one of size s, of which n tasks have yet to run

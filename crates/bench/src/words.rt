@@ -4,7 +4,7 @@ ghost use Rattle.refinement.specs.Tasks.{put, new_corners, fallen, quad_task, po
 ghost use Rattle.tables.specs.Lent.{mesh};
 ghost use Rattle.layout.specs.Laws.{four_laid};
 ghost use Rattle.layout.specs.Layout.{block, level_at, laid, shifted, standing_in, after_task, InRange};
-ghost use Rattle.bench.specs.State.{Lengths, Ready};
+ghost use Rattle.bench.specs.State.{Lengths, Ready, RoomAbove};
 ghost use Rattle.bench.specs.Writes.{friends_by, marks_by, starts_by};
 
 use crate::stage::Size;
@@ -28,6 +28,7 @@ fn fallen_mark(word: u32) -> u32
 }
 
 // The task of a quad: the quad, and the friends of its two off-edges.
+// What writes takes the words and a place, and no writer: a task writes to places all over, not one after the other.
 #[derive(Clone, Copy)]
 struct QuadTask {
     size: Size,
@@ -62,7 +63,8 @@ impl QuadTask {
         ]
     }
 
-    // What it writes to the friends that begin at word `at`.
+    // What it writes to the friends that begin at word `at`. `put_marks` writes other words to the same places, four of them of its
+    // own kind: a table of places and words would be made for this one use.
     fn put_friends(self, cells: &mut [u32], at: usize)
         requires { at + 8 * self.size.quads ≤ length cells.old }
         ensures { cells.new ≡ put (shifted at (friends_by self.q self.g0 self.g1)) cells.old }
@@ -109,7 +111,7 @@ impl QuadTask {
     }
 }
 
-// Writes xs over the words from `at` on.
+// Writes xs over the words from `at` on. The same line as `lay` in `lines`; why, stands there.
 fn copy_in(cells: &mut [u32], at: usize, xs: &[u32])
     requires { at + length xs.now ≤ length cells.old }
     ensures { cells.new ≡ laid cells.old at xs.now }
@@ -118,6 +120,9 @@ fn copy_in(cells: &mut [u32], at: usize, xs: &[u32])
 }
 
 // The lent words, in a struct of their own: while they are written, what a bench keeps of them does not hold.
+// Its regions lie in one lent slice, found by arithmetic: the library has no heap, and its maker lends the words.
+// The size goes with them as a parameter. A struct that holds both was tried: of the words behind it `Bench::quad` knew only the length
+// at the end, so its goal `invariant_of-self` did not close.
 #[derive(Drop)]
 pub struct Words<'a> {
     pub cells: &'a mut [u32],
@@ -185,7 +190,7 @@ impl<'a> Words<'a> {
 
     // The words that say which tasks of the level in work have run.
     fn ran(&self, size: Size) -> &[u32]
-        requires { 44 * size.quads + 3 * size.points ≤ length self.now.cells.now }
+        requires { RoomAbove size self.now.cells.now }
         ensures { result.now ≡ block self.now.cells.now (43 * size.quads + 2 * size.points) (size.quads + size.points) }
     {
         &self.cells[size.ran_from()..size.words_to_begin()]
@@ -193,7 +198,7 @@ impl<'a> Words<'a> {
 
     // How many tasks are left once this one has run.
     pub(crate) fn left_after(&self, size: Size, task: usize, left: u32) -> u32
-        requires points_in_bounds { (44 * size.quads + 3 * size.points ≤ length self.now.cells.now) × (task < size.quads + size.points) }
+        requires points_in_bounds { RoomAbove size self.now.cells.now × (task < size.quads + size.points) }
         requires left_value { left ≡ count_by (λ w. nat_eq w 0) (block self.now.cells.now (43 * size.quads + 2 * size.points) (size.quads + size.points)) }
         ensures { result ≡ count_by (λ w. nat_eq w 0) (slice_set (block self.now.cells.now (43 * size.quads + 2 * size.points) (size.quads + size.points)) task 1) }
     {
@@ -206,7 +211,7 @@ impl<'a> Words<'a> {
 
     // The lowest task that has yet to run.
     pub(crate) fn lowest(&self, size: Size) -> Option<usize>
-        requires { 44 * size.quads + 3 * size.points ≤ length self.now.cells.now }
+        requires { RoomAbove size self.now.cells.now }
         ensures { result ≡ position (λ w. nat_eq w 0) (block self.now.cells.now (43 * size.quads + 2 * size.points) (size.quads + size.points)) }
     {
         self.ran(size).iter().position(|w| *w == 0)
@@ -227,7 +232,7 @@ impl<'a> Words<'a> {
 
     // Writes 0 into all words of a level in work above one of this size.
     pub(crate) fn blank(&mut self, size: Size)
-        requires { 44 * size.quads + 3 * size.points ≤ length self.old.cells.now }
+        requires { RoomAbove size self.old.cells.now }
         ensures { self.new.cells.now ≡ laid self.old.cells.now (8 * size.quads + size.points) (replicate (36 * size.quads + 2 * size.points) 0) }
     {
         self.cells[size.words()..size.words_to_begin()].fill(0);
@@ -235,7 +240,7 @@ impl<'a> Words<'a> {
 
     // Moves the tables of the level in work above one of this size to the front.
     pub(crate) fn bring_down(&mut self, size: Size)
-        requires { 44 * size.quads + 3 * size.points ≤ length self.old.cells.now }
+        requires { RoomAbove size self.old.cells.now }
         ensures { self.new.cells.now ≡ laid self.old.cells.now 0 (block self.old.cells.now (8 * size.quads + size.points) (35 * size.quads + size.points)) }
     {
         self.cells.copy_within(size.words()..size.ran_from(), 0);

@@ -49,6 +49,7 @@ impl<'a> Bench<'a> {
                 fault: Fault::OtherSlip,
                 slip,
             }),
+            // by hand: `map_err` would take the slip, which comes back in both cases
             Err(fault) => Err(Declined { fault, slip }),
         }
     }
@@ -100,6 +101,7 @@ impl<'a> Bench<'a> {
     }
 
     // Runs the task of a quad, again if asked, and answers how many tasks have yet to run.
+    // `point` differs in the bound, the place among the tasks and what is written, which is all that the two have.
     pub fn quad(&mut self, quad: Quad) -> Result<u32, Fault>
         ensures call { Called (state self.old) (quad_call quad.0) (state self.new) (told result) }
         ensures count { Counts result (left (state self.new)) }

@@ -5,13 +5,13 @@ use mesh::fault::Fault;
 // The right to finish or withdraw the level in work. It bears the mark number of its bench.
 pub struct Slip {
     mark: u32,
-    // whether it has been spent: of no slip that is handed out is it so.
-    // A field, since a drop that nobody could ever call is refused by the gate
+    // whether it has been spent; no slip that is handed out has been.
+    // A field, since the checker refuses a drop that can never be called
     spent: bool,
 }
 
-// Only a slip that has been spent may be let go. Spending takes it apart, so nobody holds such a slip, and of one that is held nobody
-// can show it. So no slip is ever let go: it ends in a finish or a withdraw alone.
+// Only a slip that has been spent may be let go, and spending takes it apart, so of a slip that is held nobody can show it.
+// So a slip ends in a finish or a withdraw alone.
 impl Drop for Slip {
     fn drop(self)
         requires { self.spent ≡ true }
