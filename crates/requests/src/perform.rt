@@ -82,12 +82,8 @@ pub fn work_in<'s, F: Form<'s>>(
     ensures after { state bench.new ≡ run_on (state bench.old) (all_calls (state bench.old) (first_asked (F.asks form.now) (length answers.old) rows.now)) }
     ensures gave { Gave F.keeps (replies (beside bench.entry.now nothing) (first_asked (F.asks form.now) (length answers.old) rows.now)) answers.old answers.new }
 {
-    match perform_in(bench, None, form, rows, answers) {
-        None => (),
-        Some(slip) => match bench.withdraw(slip) {
-            Ok(()) => (),
-            Err(_) => unreachable(),
-        },
+    if let Some(slip) = perform_in(bench, None, form, rows, answers) {
+        bench.withdraw(slip).unwrap();
     }
 }
 
