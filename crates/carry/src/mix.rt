@@ -44,6 +44,7 @@ impl<'a, 'r, K: ValueKind> Valued<'a, 'r, K> {
     {
         let first = 4 * quad.0;
         let mut mix = K::start();
+        // the parts one by one, as they are stated: tried as a loop, the proof did not close without an invariant of the parts so far
         self.add_at(point(&self.level, Corner(first)), 1, &mut mix);
         self.add_at(point(&self.level, Corner(first + 1)), 1, &mut mix);
         self.add_at(point(&self.level, Corner(first + 2)), 1, &mut mix);
