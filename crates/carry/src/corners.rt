@@ -18,7 +18,7 @@ fn put<C: CornerKind>(out: &mut [C::Row], first: usize, a: &C, b: &C, c: &C, d: 
     requires { first + 4 ≤ length out.old }
     ensures { out.new ≡ slice_set (slice_set (slice_set (slice_set out.old first (C.Rowed.row a.now)) (first + 1) (C.Rowed.row b.now)) (first + 2) (C.Rowed.row c.now)) (first + 3) (C.Rowed.row d.now) }
 {
-    // tried as a copy_from_slice of an array of the four: its proof did not close by itself, and with a lemma it is no plainer
+    // tried as a copy_from_slice of an array of the four: its proof did not close by itself
     out[first] = a.to_row();
     out[first + 1] = b.to_row();
     out[first + 2] = c.to_row();

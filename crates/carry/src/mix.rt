@@ -1,5 +1,5 @@
 // Parts added to a running mix by their points, and the blends of face points and of edge points.
-// A mix and a weight are no struct: the mix is of the kind's own type, an associated one, goes on from call to call, and each call has another weight.
+// A mix and a weight are no struct: the mix is of the kind's own type, an associated one, and goes on from call to call, and the weight is that of the part.
 ghost use Rattle.std.specs.Prelude.{◌≡◌, ℕ, ◌+◌, ◌*◌, ◌<◌, ◌≤◌, min, List, [], ◌∷◌, ◌++◌, length};
 ghost use Rattle.carried.specs.Blends.{edge as edge_parts, face as face_parts};
 ghost use Rattle.kinds.specs.Parts.{most_weight, total};
