@@ -65,7 +65,7 @@ pub(crate) fn around<'a>(level: &LawfulTables<'a>, point: Point) -> Around
     let start = level.tables.starts[point.0 as usize];
     let mut corner = Corner(start);
     let mut seen = Around::none();
-    // a walk of a length that is known once it is back
+    // a walk whose length is known once it is back. One iterator for the three walks is no plainer: they differ in whether they read the mark, and in whether they know the length
     loop {
         let (mark, next) = marked_step(level, corner);
         seen = seen.more(mark);

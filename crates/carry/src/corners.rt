@@ -1,4 +1,5 @@
 // Corner values of the next level: quad by quad, four rows to sixteen.
+// Here and in the other calls rows are read and `out` is written, and a call has just one of each, so a struct of the two is no plainer.
 ghost use Rattle.std.specs.Prelude.{◌≡◌, ℕ, ◌+◌, ◌*◌, ◌<◌, ◌≤◌, map, length, MatchResult, slice_set};
 ghost use Rattle.mesh.specs.Refusals.{told};
 ghost use Rattle.carried.specs.Corners.{corners};
@@ -17,6 +18,7 @@ fn put<C: CornerKind>(out: &mut [C::Row], first: usize, a: &C, b: &C, c: &C, d: 
     requires { first + 4 ≤ length out.old }
     ensures { out.new ≡ slice_set (slice_set (slice_set (slice_set out.old first (C.Rowed.row a.now)) (first + 1) (C.Rowed.row b.now)) (first + 2) (C.Rowed.row c.now)) (first + 3) (C.Rowed.row d.now) }
 {
+    // tried as a copy_from_slice of an array of the four: its proof did not close by itself
     out[first] = a.to_row();
     out[first + 1] = b.to_row();
     out[first + 2] = c.to_row();
@@ -29,6 +31,7 @@ fn put_quad<'r, C: CornerKind>(rows: &Rows<'r, C>, q: usize, out: &mut [C::Row])
     requires room { 16 * q + 16 ≤ length out.old }
     ensures { (n : ℕ) → length rows.now.rows.now ≡ 4 * n → Upto C.Rowed.row (corners C.middle (made C.Rowed.verdict rows.now.rows.now)) out.old (16 * q) → Upto C.Rowed.row (corners C.middle (made C.Rowed.verdict rows.now.rows.now)) out.new (16 * q + 16) }
 {
+    // the corners of a quad are four, each with a name of its own below
     let a = rows.value(4 * q);
     let b = rows.value(4 * q + 1);
     let c = rows.value(4 * q + 2);

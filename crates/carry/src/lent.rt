@@ -1,4 +1,5 @@
 // The calls over lent tables, of which nothing is known: they are judged first.
+// The calls on a bench have the same names, and stay beside these: their contracts refuse for other causes, a judge of tables here and a bench without a level there.
 ghost use Rattle.std.specs.Prelude.{◌≡◌, map, length, MatchResult};
 ghost use Rattle.carried.specs.Blends.{values as values_of};
 ghost use Rattle.carried.specs.Corners.{corners as corners_of};

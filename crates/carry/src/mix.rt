@@ -1,4 +1,5 @@
 // Parts added to a running mix by their points, and the blends of face points and of edge points.
+// A mix and a weight are no struct: the mix is of the kind's own type, an associated one, and goes on from call to call, and the weight is that of the part.
 ghost use Rattle.std.specs.Prelude.{◌≡◌, ℕ, ◌+◌, ◌*◌, ◌<◌, ◌≤◌, min, List, [], ◌∷◌, ◌++◌, length};
 ghost use Rattle.carried.specs.Blends.{edge as edge_parts, face as face_parts};
 ghost use Rattle.kinds.specs.Parts.{most_weight, total};
@@ -43,6 +44,7 @@ impl<'a, 'r, K: ValueKind> Valued<'a, 'r, K> {
     {
         let first = 4 * quad.0;
         let mut mix = K::start();
+        // the parts one by one, as they are stated: tried as a loop, the proof did not close without an invariant of the parts so far
         self.add_at(point(&self.level, Corner(first)), 1, &mut mix);
         self.add_at(point(&self.level, Corner(first + 1)), 1, &mut mix);
         self.add_at(point(&self.level, Corner(first + 2)), 1, &mut mix);

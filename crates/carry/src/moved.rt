@@ -43,7 +43,7 @@ impl<'v, 'a, 'r, K: ValueKind> Vertex<'v, 'a, 'r, K> {
         let n = self.seen.valence;
         valued.add_at(self.point, times * (n * (4 * n - 7)), mix);
         let mut corner = Corner(valued.level.tables.starts[self.point.0 as usize]);
-        // counts the steps of a walk, and indexes nothing; unlike the other walks it reads no mark
+        // counts the steps of a walk, and indexes nothing; unlike the other two walks it reads no mark
         for _met in 0..n {
             valued.add_at(point(&valued.level, other_end(corner)), times * 6, mix);
             valued.add_at(point(&valued.level, diagonal(corner)), times, mix);
@@ -57,7 +57,7 @@ impl<'v, 'a, 'r, K: ValueKind> Vertex<'v, 'a, 'r, K> {
     {
         let valued = self.valued;
         let mut corner = Corner(valued.level.tables.starts[self.point.0 as usize]);
-        // counts the steps of a walk, and indexes nothing
+        // counts the steps of a walk, and indexes nothing; it reads the mark, and unlike the walk that finds the valence it knows its length
         for _met in 0..self.seen.valence {
             let (mark, next) = marked_step(&valued.level, corner);
             if is_marked(mark) {

@@ -1,5 +1,6 @@
 // Reads of a lawful mesh at numbers below its counts: none needs a test. A public function asks nothing, so these are the crate's own.
-// Most corners are made where they are read: a type of corners below the count would want the proof of the same bound there, and a level beside it.
+// Most corners are made where they are read: a type of corners below the count would want the proof of the same bound there, and would have to name its level.
+// So for points and off-edges.
 ghost use Rattle.std.specs.Prelude.{◌≡◌, ◌*◌, ◌<◌};
 ghost use Rattle.mesh.specs.Marks.{word_of};
 ghost use Rattle.mesh.specs.Mesh.{mark as mark_word, off_edge, point as point_of, step as step_from};

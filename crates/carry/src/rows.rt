@@ -37,6 +37,7 @@ impl<'r, K: Rowed> Rows<'r, K> {
         ensures verdict { told result ≡ rows_refusal K.verdict rows.now }
         ensures held { IfOk result (λ it. it.rows.now ≡ rows.now) }
     {
+        // by match: a map_or would make the Rows before it is known that every row makes a value, which is their invariant
         match first_wrong::<K>(rows) {
             Some(i) => Err(Fault::NoValue(i as u32)),
             None => Ok(Rows { rows }),

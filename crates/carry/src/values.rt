@@ -22,7 +22,7 @@ use tables::slot::{edge_slot, face_slot, old_slot};
 
 impl<'a, 'r, K: ValueKind> Valued<'a, 'r, K> {
     // Writes for each number the row of its value at its slot. Of `self` only the clauses speak, for the level whose rows are right:
-    // a bound `Fn(&Self, u32)`, with which the body would pass it on, cannot be stated yet.
+    // a bound `Fn(&Self, u32)`, with which the body would pass it on, cannot be stated yet of a type with both an invariant and a kind (a `Bench<'_>` has no kind).
     fn put_each<F: Fn(u32) -> (K, usize)>(&self, out: &mut [K::Row], count: u32, at: F)
         requires callable { (n : ℕ) → n < count → F.pre at n }
         requires due { (n : ℕ) (r : _) → n < count → F.post at n r → (r.1 < length out.old) × (r.0 ≡ blend K.blended (made K.Rowed.verdict self.now.rows.rows.now) (parts (mesh self.now.level.tables) r.1)) }
@@ -36,7 +36,7 @@ impl<'a, 'r, K: ValueKind> Valued<'a, 'r, K> {
     }
 }
 
-// Writes the values of the next level of a lawful mesh.
+// Writes the values of the next level of a lawful mesh. It begins as that of corner values does, but each counts its own sizes.
 pub(crate) fn carry<'a, K: ValueKind>(
     level: LawfulTables<'a>,
     rows: &[K::Row],

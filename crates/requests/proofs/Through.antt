@@ -1,9 +1,12 @@
 -- Several requests: what they leave is what their calls leave, so the promise goes on through them.
-use Rattle.std.proofs.Common.{◌≡◌, ℕ, List, [], ◌∷◌, ◌++◌, None, Option, sym, refl, ap, ◌∙◌, subst}
+use Rattle.std.proofs.Common.{◌≡◌, ℕ, List, [], ◌∷◌, ◌++◌, None, Option, Ok, Err, Result, sym, refl, ap, ◌∙◌, subst}
+use Rattle.std.specs.Result.{IsOk}
+use Rattle.bench.specs.Model.{told_slip}
+use Rattle.bench.specs.declared.bench.slip.Declined.{Declined}
 use Rattle.chain.specs.Calls.{Call, State, next}
 use Rattle.chain.specs.Clauses.{After, GoesOnThrough, Made, run_on}
 use Rattle.chain.proofs.Runs.{through_made, through_run}
-use Rattle.mesh.specs.Refusals.{Verdict, fine, declined}
+use Rattle.mesh.specs.Refusals.{Verdict, fine, declined, number_of, place_of}
 use Rattle.requests.proofs.Fits.{Fits, fits_plays}
 use Rattle.requests.specs.Sessions.{Asked, Session, closing, all_calls, calls_of, play, plays, calls_made}
 
@@ -38,5 +41,8 @@ module _ (s : State) (rs : List Asked) (middle : State) (h : Option ℕ)
   pub fits_held : Fits middle h
   fits_held = subst (λ (u : Session). Fits u.bench u.held) (sym e) (fits_plays (record { bench = s; held = None }) rs tt)
 
-pub never_refused : {A : Type 0} (v : Verdict) (n p : ℕ) → declined n p ≡ v → v ≡ fine → A
-never_refused v n p a b = let z : ⊥ = cc in absurd z
+pub never_refused : (r : Result Unit Declined) (v : Verdict) → told_slip r ≡ v → v ≡ fine → IsOk r
+never_refused (Ok x) v a b = refl
+never_refused (Err d) v a b =
+    let z : declined (number_of d.fault) (place_of d.fault) ≡ fine = a ∙ b in
+    cc

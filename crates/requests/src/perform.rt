@@ -1,3 +1,5 @@
+// A bench and the slip held beside it go in and out as two: a struct of them would hold a slip, so it too could end only by a call, and is no plainer.
+// Rows and answers are two as well: the ones are read, the others written, and each call has just one of each.
 ghost use Rattle.std.specs.Prelude.{◌≡◌, ℕ, map, length, take, None as nothing};
 ghost use Rattle.chain.specs.Clauses.{After, GoesOnThrough, Made, run_on};
 ghost use Rattle.bench.specs.Model.{state, told_slip};
@@ -32,6 +34,7 @@ pub fn ask(
         Request::Load(tables) => (held, bench.load(&tables).into()),
         Request::Begin => match held {
             Some(slip) => (Some(slip), Answer::Nothing),
+            // the slip that is handed out is held, so the arms differ in more than the answer
             None => match bench.begin() {
                 Ok(slip) => (Some(slip), Answer::Done),
                 Err(fault) => (None, Answer::Refused(fault)),
@@ -39,6 +42,7 @@ pub fn ask(
         },
         Request::RunQuad(quad) => (held, bench.quad(quad).into()),
         Request::RunPoint(point) => (held, bench.point(point).into()),
+        // by match, here and below: the borrow checker doesn't cover held.map_or(..), which may drop what it holds, and a slip's drop asks that it is spent
         Request::Finish => match held {
             None => (None, Answer::Nothing),
             Some(slip) => parted(bench.finish(slip)),
@@ -63,7 +67,7 @@ fn perform_in<'s, F: Form<'s>>(
 {
     let mut held = held;
     let asked = &rows[..rows.len().min(answers.len())];
-    // by index: over a zip with answers.iter_mut() the proof doesn't close, since no invariant can name the answers
+    // by index: over a zip with `answers.iter_mut()` the proof did not close, since no invariant can name the answers
     for (i, row) in asked.iter().enumerate() {
         let (slip, answer) = ask(bench, held, form.request(row));
         held = slip;
@@ -82,12 +86,8 @@ pub fn work_in<'s, F: Form<'s>>(
     ensures after { state bench.new ≡ run_on (state bench.old) (all_calls (state bench.old) (first_asked (F.asks form.now) (length answers.old) rows.now)) }
     ensures gave { Gave F.keeps (replies (beside bench.entry.now nothing) (first_asked (F.asks form.now) (length answers.old) rows.now)) answers.old answers.new }
 {
-    match perform_in(bench, None, form, rows, answers) {
-        None => (),
-        Some(slip) => match bench.withdraw(slip) {
-            Ok(()) => (),
-            Err(_) => unreachable(),
-        },
+    if let Some(slip) = perform_in(bench, None, form, rows, answers) {
+        bench.withdraw(slip).unwrap();
     }
 }
 

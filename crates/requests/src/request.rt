@@ -32,10 +32,7 @@ impl From<Result<(), Fault>> for Answer {
     ghost from_gives = { λ x r. told_reply r ≡ reply (told x) done };
 
     fn from(called: Result<(), Fault>) -> Self {
-        match called {
-            Ok(()) => Answer::Done,
-            Err(fault) => Answer::Refused(fault),
-        }
+        called.map_or_else(Answer::Refused, |()| Answer::Done)
     }
 }
 
@@ -43,9 +40,6 @@ impl From<Result<u32, Fault>> for Answer {
     ghost from_gives = { λ x r. told_reply r ≡ count_reply x };
 
     fn from(left: Result<u32, Fault>) -> Self {
-        match left {
-            Ok(left) => Answer::Left(left),
-            Err(fault) => Answer::Refused(fault),
-        }
+        left.map_or_else(Answer::Refused, Answer::Left)
     }
 }
