@@ -45,6 +45,7 @@ fn refined(input: &[u8], output: &mut [u8]) -> Result<usize, Fault>
     let mut bench = Bench::new(&mut words, 0);
     load_text(&mut bench, input, &mut tables)?;
     refine_once(&mut bench)?;
+    // 0 for no room too, since the C call answers a count, and 0 says that nothing was written
     Ok(write_text(&bench, output).unwrap_or(0))
 }
 
