@@ -55,6 +55,7 @@ pub fn mesh_refine_step(input: &[u8], output: &mut [u8]) -> usize
 {
     match refined(input, output) {
         Ok(count) => count,
+        // no `unwrap_or_else`: tried, and it leaves the output's last value under a name that a proof may not cite
         Err(fault) => write_frame(&fault, output).unwrap_or(0),
     }
 }
