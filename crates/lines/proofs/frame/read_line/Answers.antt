@@ -51,8 +51,8 @@ returns c =
     let k : length c.read_words.new.out ≡ length c.args.out.now = omega arith in
     carried c.strip_prefix-2.result (strip_prefix_is Decides-eqb end (10 ∷ []) c.strip_prefix-2.result c.strip_prefix-2.ensures.cases)
     (λ none. line_none (first_digit c.args.kind) (second_digit c.args.kind) (length c.args.out.now) s (λ ns t e l.
-      none t (words_end u c.read_words.new.out end ns (10 ∷ t) c.in_ok-read_words.ensures (words_of s p u _ _ ns t c.digits.ensures some l) (omega arith)).1))
+    none t (words_end u c.read_words.new.out end ns (10 ∷ t) c.in_ok-read_words.ensures (words_of s p u _ _ ns t c.digits.ensures some l) (omega arith)).1))
     (λ rest e.
-      let P : List ℕ → Type 0 = λ x. Words u c.read_words.new.out x in
-      let l = line_of s p u (first_digit c.args.kind) (second_digit c.args.kind) c.read_words.new.out rest.now c.digits.ensures some (subst P e c.in_ok-read_words.ensures) in
-      (ap (λ (n : ℕ). line (first_digit c.args.kind) (second_digit c.args.kind) n s) (sym k) ∙ line_finds _ _ _ _ _ l, l.small))
+    let P : List ℕ → Type 0 = λ x. Words u c.read_words.new.out x in
+    let l = line_of s p u (first_digit c.args.kind) (second_digit c.args.kind) c.read_words.new.out rest.now c.digits.ensures some (subst P e c.in_ok-read_words.ensures) in
+    (ap (λ (n : ℕ). line (first_digit c.args.kind) (second_digit c.args.kind) n s) (sym k) ∙ line_finds _ _ _ _ _ l, l.small))
