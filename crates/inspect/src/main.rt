@@ -12,7 +12,7 @@ mod tally;
 // The longest text of a lawful mesh: line 0 has 17 bytes, the line of a quad 55 at most and that of a point 10.
 const LONGEST: u64 = 17 + 55 * 1_048_576 + 10 * 2_097_152;
 
-// The most quads and points that a lawful mesh has.
+// The most quads and points that a lawful mesh has, as `tables` has them, on which this program does not stand.
 const QUADS: u32 = 1_048_576;
 
 const POINTS: u32 = 2_097_152;
@@ -49,7 +49,7 @@ fn report(rt: &HostRuntime, counts: Counts, tally: Tally) -> anyhow::Result<()> 
     Ok(())
 }
 
-// Why nothing is reported.
+// Why nothing is reported. The two `From`s by hand: a derive of them would ask for a text and Debug too, which nothing here uses.
 enum Stop {
     Refused(Fault),
     NoMemory(AllocError),

@@ -1,10 +1,14 @@
 -- Lemmas on the words of a line: they are the same however they are read, and what is read is the text. Assumes nothing.
-use Rattle.std.proofs.Common.{◌≡◌, ℕ, ◌≤◌, List, [], ◌∷◌, ◌++◌, length, get_or, take, drop, sym, refl, ap, ◌∙◌, subst, append_assoc, arith}
+use Rattle.std.proofs.Common.{◌≡◌, ℕ, ◌≤◌, List, [], ◌∷◌, ◌++◌, length, get_or, take, drop, MatchOption, Some, None, Option, sym, refl, ap, ◌∙◌, subst, append_assoc, arith}
 use Rattle.std.specs.List.{AllByRecursion}
 use Rattle.std.proofs.lemmas.List.{take_all, drop_all}
 use Rattle.lines.specs.Lines.{Ends, Word, Spaced, Words, Line}
 use Rattle.lines.specs.Text.{word_text, words_text, line_text, WordSized}
 use Rattle.lines.proofs.Words.{same_word}
+
+pub carried : {A : Type 0} (o : Option A) {P P' : Type 0} {Q Q' : A → Type 0} → MatchOption o P Q → (P → P') → ((x : A) → Q x → Q' x) → MatchOption o P' Q'
+carried None h f g = f h
+carried (Some x) h f g = g x h
 
 tail : List ℕ → List ℕ
 tail [] = []

@@ -1,4 +1,4 @@
-// The digit that each byte is, and 16 where it is none. One table of bytes, since a test of ranges costs a branch that is often foretold wrongly.
+// The digit that each byte is, or 16 for none; `digit` makes it an Option. A table, since tests of ranges branch, which is slower.
 pub const DIGITS: [u8; 256] = [
     16, 16, 16, 16, 16, 16, 16, 16, 16, 16, 16, 16, 16, 16, 16, 16, 16, 16, 16, 16, 16, 16, 16, 16,
     16, 16, 16, 16, 16, 16, 16, 16, 16, 16, 16, 16, 16, 16, 16, 16, 16, 16, 16, 16, 16, 16, 16, 16,

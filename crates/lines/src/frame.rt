@@ -50,10 +50,7 @@ fn read_word(s: &[u8]) -> Option<(u32, &[u8])>
 fn spaced_word(s: &[u8]) -> Option<(u32, &[u8])>
     ensures { MatchOption result ((n : ℕ) (t : List ℕ) → Spaced s.now n t → ⊥) (λ p. Spaced s.now p.0 p.1.now) }
 {
-    let [b' ', word @ ..] = s else {
-        return None;
-    };
-    read_word(word)
+    read_word(s.strip_prefix(b" ")?)
 }
 
 // As many words as `out` has places, with a space before each, and the bytes after them.
@@ -71,15 +68,6 @@ fn read_words<'a>(s: &'a [u8], out: &mut [u32]) -> Option<&'a [u8]>
 pub(crate) fn read_line<'a>(s: &'a [u8], kind: Kind, out: &mut [u32]) -> Option<&'a [u8]>
     ensures { MatchOption result (line (first_digit kind) (second_digit kind) (length out.old) s.now ≡ None) (λ rest. (line (first_digit kind) (second_digit kind) (length out.old) s.now ≡ Some (out.new, rest.now)) × AllByRecursion WordSized out.new) }
 {
-    let [a, b] = kind.digits();
-    let [first, second, words @ ..] = s else {
-        return None;
-    };
-    if *first != a || *second != b {
-        return None;
-    }
-    let [b'\n', rest @ ..] = read_words(words, out)? else {
-        return None;
-    };
-    Some(rest)
+    let words = s.strip_prefix(&kind.digits())?;
+    read_words(words, out)?.strip_prefix(b"\n")
 }

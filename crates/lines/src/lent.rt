@@ -19,7 +19,7 @@ pub struct TablesMut<'a> {
     pub starts: &'a mut [u32],
 }
 
-// Writes words over a part of a table. The words of a bench are written by the same line in its own crate: a public function of this would have to ask for room, and those that are public ask for nothing.
+// Writes words over a part of a table. `bench` has the same line: a public function for both would have to ask for room.
 fn lay(table: &mut [u32], at: usize, words: &[u32])
     requires { at + length words.now ≤ length table.old }
     ensures { table.new ≡ take at table.old ++ (words.now ++ drop (at + length words.now) table.old) }
@@ -39,14 +39,14 @@ impl TablesMut<'_> {
             && counts.points as usize <= self.starts.len()
     }
 
-    // Fills the three tables of quads from their lines; the bytes after these.
+    // Fills the three tables of quads from their lines; the bytes after these. The body is what is left to read, and the counts are what line 0 said: no method of a pair of them would be shorter.
     fn fill_quads<'t>(&mut self, body: &'t [u8], counts: Counts) -> Option<&'t [u8]>
         requires { HasRoom counts.quads counts.points (lent_room self.old) }
         ensures same { Same self.old self.new }
         ensures starts_kept { self.new.starts.now ≡ self.old.starts.now }
         ensures filled { (rows : List (List ℕ)) (t : List ℕ) → lines 48 49 8 counts.quads body.now ≡ good rows t → MatchOption result ⊥ (λ rest. (rest.now ≡ t) × (self.new.corners.now ≡ laid (flat_map (λ ns. take 4 ns) rows) self.old.corners.now) × (self.new.friends.now ≡ laid (flat_map (λ ns. take 2 (drop 4 ns)) rows) self.old.friends.now) × (self.new.marks.now ≡ laid (flat_map (λ ns. take 2 (drop 6 ns)) rows) self.old.marks.now)) }
     {
-        // by index: after chunks of a `&mut` slice nothing is known of its elements
+        // by index: after a loop over mutable chunks a proof knows nothing of what they hold
         let mut row = [0u32; 8];
         let mut rest = body;
         for q in 0..counts.quads as usize {

@@ -51,8 +51,8 @@ fn judge_lines<const WORDS: usize>(
 {
     let mut row = [0u32; WORDS];
     let mut rest = text;
-    for k in 0..count {
-        rest = read_line(rest, kind, &mut row).ok_or(Fault::BadLine(first + k))?;
+    for line in first..first + count {
+        rest = read_line(rest, kind, &mut row).ok_or(Fault::BadLine(line))?;
     }
     Ok(rest)
 }

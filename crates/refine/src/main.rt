@@ -14,7 +14,7 @@ fn main(rt: HostRuntime) -> io::Result<()> {
     rt.stdin()
         .take(LONGEST_INPUT as u64 + 1)
         .read_to_end(&mut input)?;
-    // a buffer and a count, as in the C call: the step writes into what it is lent, and answers how many bytes
+    // a buffer and a count, since the step is made for the C call
     let mut output = [0u8; OUTPUT];
     let count = mesh_refine_step(&input, &mut output);
     rt.stdout().write_all(&output[..count])

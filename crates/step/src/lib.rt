@@ -45,6 +45,7 @@ fn refined(input: &[u8], output: &mut [u8]) -> Result<usize, Fault>
     let mut bench = Bench::new(&mut words, 0);
     load_text(&mut bench, input, &mut tables)?;
     refine_once(&mut bench)?;
+    // 0 for no room too, since the C call answers a count, and 0 says that nothing was written
     Ok(write_text(&bench, output).unwrap_or(0))
 }
 
@@ -54,6 +55,7 @@ pub fn mesh_refine_step(input: &[u8], output: &mut [u8]) -> usize
 {
     match refined(input, output) {
         Ok(count) => count,
+        // no `unwrap_or_else`: tried, and it leaves the output's last value under a name that a proof may not cite
         Err(fault) => write_frame(&fault, output).unwrap_or(0),
     }
 }

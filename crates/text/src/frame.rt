@@ -15,6 +15,7 @@ pub fn write_frame(fault: &Fault, out: &mut [u8]) -> Result<usize, Fault>
     if out.len() < 3 + words_size(&words) {
         return Err(Fault::TooShort);
     }
+    // as in `write_level`: a function of these three lines would take what is put as a closure, with a clause on what it leaves
     let mut writer = Writer { out, at: 0 };
     writer.put_line(Kind::Refusal, &words);
     Ok(writer.at)

@@ -34,6 +34,7 @@ impl From<TextFault> for Fault {
     }
 }
 
+// What a load refuses; what reading refuses is wrapped by its name.
 impl From<Fault> for TextFault {
     ghost from_gives = { λ f t. t ≡ Unloaded f };
 

@@ -6,7 +6,7 @@ ghost use Rattle.text.specs.Put.{Room, Wrote};
 
 use lines::kind::Kind;
 
-// The byte of a digit below 16. No table of the bytes: it is slower.
+// The byte of a digit below 16.
 fn hex(d: u32) -> u8
     requires { d < 16 }
     ensures { result ≡ hex_byte d }
@@ -37,7 +37,7 @@ pub(crate) fn needed(n: u32) -> usize
     }
 }
 
-// How many bytes a word has with a space before it. By a sum of tests, which is done for several words at once; where a word is written, branches are faster.
+// How many bytes a word has with a space before it. A sum of tests, since several words are done at once; `needed` branches, which is faster for one word.
 fn word_size(n: u32) -> usize
     ensures { result ≡ 1 + width n }
 {
@@ -57,7 +57,7 @@ pub(crate) fn words_size(words: &[u32]) -> usize
     words.iter().map(|w| word_size(*w)).sum()
 }
 
-// A lent buffer, and the place from which on the next bytes are written.
+// A lent buffer, and the place from which on the next bytes are written. Not std's traits for writers: each byte would be a Result to unwrap, though there is room for all.
 #[derive(Drop)]
 pub(crate) struct Writer<'a> {
     pub(crate) out: &'a mut [u8],
@@ -79,7 +79,7 @@ impl Writer<'_> {
         ensures { Wrote self.old (digits count n) self.new }
     {
         let end = self.at + count;
-        // The last digit first, since that is the one at hand. By index: of bytes that `iter_mut().rev()` went over nothing is known afterwards.
+        // From the last digit, which comes first. By index: after `iter_mut().rev()` a proof knows nothing of the bytes.
         let mut left = n;
         for place in (self.at..end).rev() {
             self.out[place] = hex(left % 16);

@@ -8,5 +8,5 @@ invariant-loop-c l = record {
   corner_size : chunks_exact_size l.c-iterator.a ≡ 4;
   friend_size : chunks_exact_size l.c-iterator.b.a ≡ 2;
   mark_size : chunks_exact_size l.c-iterator.b.b ≡ 2;
-  left : Left l.initial.self l.self (quads (length l.corners / 4) l.corners l.friends l.marks) (chunks_exact_rest l.c-iterator.a) (chunks_exact_rest l.c-iterator.b.a) (chunks_exact_rest l.c-iterator.b.b);
+  left : Left l.initial.self l.self (quads (length l.fn.level.tables.corners.now / 4) l.fn.level.tables.corners.now l.fn.level.tables.friends.now l.fn.level.tables.marks.now) (chunks_exact_rest l.c-iterator.a) (chunks_exact_rest l.c-iterator.b.a) (chunks_exact_rest l.c-iterator.b.b);
 }
