@@ -37,24 +37,13 @@ pub(crate) fn needed(n: u32) -> usize
     }
 }
 
-// How many bytes a word has with a space before it. A sum of tests, since several words are done at once; `needed` branches, which is faster for one word.
-fn word_size(n: u32) -> usize
-    ensures { result ≡ 1 + width n }
-{
-    2 + usize::from(n >= 0x10)
-        + usize::from(n >= 0x100)
-        + usize::from(n >= 0x1000)
-        + usize::from(n >= 0x1_0000)
-        + usize::from(n >= 0x10_0000)
-}
-
 // How many bytes words have, with a space before each.
 pub(crate) fn words_size(words: &[u32]) -> usize
     requires { length words.now ≤ 4294967296 }
     ensures is { result ≡ length (words_text words.now) }
     ensures bound { result ≤ 7 * length words.now }
 {
-    words.iter().map(|w| word_size(*w)).sum()
+    words.iter().map(|w| 1 + needed(*w)).sum()
 }
 
 // A lent buffer, and the place from which on the next bytes are written. Not std's traits for writers: each byte would be a Result to unwrap, though there is room for all.
