@@ -2,5 +2,4 @@ mod Writes
 mod LinesOf
 mod Sizes
 mod Texts
-mod QuadsLeft
 mod Returns

@@ -1,7 +1,7 @@
 -- The lines of a mesh one by one, and how long they are.
 use Rattle.std.proofs.Common.{◌≡◌, ℕ, zero, suc, ◌+◌, ◌*◌, ◌<◌, ◌≤◌, List, [], ◌∷◌, ◌++◌, length, get_or, take, drop, sym, refl, ap, ◌∙◌, append_assoc, arith, length-append}
 use Rattle.std.specs.List.{flat_map}
-use Rattle.std.proofs.lemmas.List.{take_more, flat_map_more, length-drop, take-append-drop, nil_from_length}
+use Rattle.std.proofs.lemmas.List.{take_more, drop_more, drop-drop, flat_map_more, length-drop, take-append-drop, nil_from_length}
 use Rattle.mesh.specs.Mesh.{Mesh, Counted}
 use Rattle.lines.specs.Text.{word_text, words_text, line_text, quad_rows, start_rows, mesh_text}
 use Rattle.text.proofs.Writes.{length_line}
@@ -20,6 +20,48 @@ module _ (f : List ℕ → List ℕ) where
       let b = length-append (f r) (flat_map f (take n rows)) in
       let c = length-append (f r) (flat_map f rows) in
       omega arith
+
+take_one : (n : ℕ) (xs : List ℕ) (i : ℕ) → i < length xs → take (suc n) (drop i xs) ≡ get_or xs i 0 ∷ take n (drop (i + 1) xs)
+take_one n xs i h = ap (take (suc n)) (drop_more xs i 0 h)
+
+take_two : (xs : List ℕ) (i : ℕ) → i + 2 ≤ length xs → take 2 (drop i xs) ≡ get_or xs i 0 ∷ (get_or xs (i + 1) 0 ∷ [])
+take_two xs i h = take_one 1 xs i (omega arith) ∙ ap (λ (x : List ℕ). get_or xs i 0 ∷ x) (take_one 0 xs (i + 1) (omega arith))
+
+take_four : (xs : List ℕ) (i : ℕ) → i + 4 ≤ length xs → take 4 (drop i xs) ≡ get_or xs i 0 ∷ (get_or xs (i + 1) 0 ∷ (get_or xs (i + 2) 0 ∷ (get_or xs (i + 3) 0 ∷ [])))
+take_four xs i h =
+    let a : i + 1 + 1 ≡ i + 2 = omega arith in
+    let b : i + 2 + 1 ≡ i + 3 = omega arith in
+    take_one 3 xs i (omega arith)
+    ∙ ap (λ (x : List ℕ). get_or xs i 0 ∷ x) (take_one 2 xs (i + 1) (omega arith) ∙ ap (λ (k : ℕ). get_or xs (i + 1) 0 ∷ take 2 (drop k xs)) a)
+    ∙ ap (λ (x : List ℕ). get_or xs i 0 ∷ (get_or xs (i + 1) 0 ∷ x)) (take_one 1 xs (i + 2) (omega arith) ∙ ap (λ (k : ℕ). get_or xs (i + 2) 0 ∷ take 1 (drop k xs)) b)
+    ∙ ap (λ (x : List ℕ). get_or xs i 0 ∷ (get_or xs (i + 1) 0 ∷ (get_or xs (i + 2) 0 ∷ x))) (take_one 0 xs (i + 3) (omega arith))
+
+part_at : (k : ℕ) (cs fs ms : List ℕ) (q : ℕ) → q < k → get_or (quad_rows k cs fs ms) q [] ≡ take 4 (drop (4 * q) cs) ++ (take 2 (drop (2 * q) fs) ++ take 2 (drop (2 * q) ms))
+unfolding quad_rows
+part_at zero cs fs ms q h = absurd (omega arith)
+part_at (suc k) cs fs ms zero h = refl
+part_at (suc k) cs fs ms (suc q) h =
+    let a : 4 + 4 * q ≡ 4 * suc q = omega arith in
+    let b : 2 + 2 * q ≡ 2 * suc q = omega arith in
+    let c = drop-drop (4 * q) 4 cs ∙ ap (λ (i : ℕ). drop i cs) a in
+    let d = drop-drop (2 * q) 2 fs ∙ ap (λ (i : ℕ). drop i fs) b in
+    let e = drop-drop (2 * q) 2 ms ∙ ap (λ (i : ℕ). drop i ms) b in
+    part_at k (drop 4 cs) (drop 2 fs) (drop 2 ms) q (omega arith) ∙ (λ i. take 4 (c i) ++ (take 2 (d i) ++ take 2 (e i)))
+
+pub rows_count : (k : ℕ) (cs fs ms : List ℕ) → length (quad_rows k cs fs ms) ≡ k
+unfolding quad_rows
+rows_count zero cs fs ms = refl
+rows_count (suc k) cs fs ms = ap suc (rows_count k (drop 4 cs) (drop 2 fs) (drop 2 ms))
+
+-- the words of quad q
+module _ (cs fs ms : List ℕ) (q : ℕ) where
+  abbrev pub row : List ℕ
+  row = get_or cs (4 * q) 0 ∷ (get_or cs (4 * q + 1) 0 ∷ (get_or cs (4 * q + 2) 0 ∷ (get_or cs (4 * q + 3) 0 ∷ (get_or fs (2 * q) 0 ∷ (get_or fs (2 * q + 1) 0 ∷ (get_or ms (2 * q) 0 ∷ (get_or ms (2 * q + 1) 0 ∷ [])))))))
+
+  pub row_at : (k : ℕ) → q < k → length cs ≡ 4 * k → length fs ≡ 2 * k → length ms ≡ 2 * k → get_or (quad_rows k cs fs ms) q [] ≡ row
+  row_at k h lc lf lm =
+      part_at k cs fs ms q h
+      ∙ (λ i. take_four cs (4 * q) (omega arith) i ++ (take_two fs (2 * q) (omega arith) i ++ take_two ms (2 * q) (omega arith) i))
 
 pub start_at : (ss : List ℕ) (v : ℕ) → v < length ss → get_or (start_rows ss) v [] ≡ get_or ss v 0 ∷ []
 unfolding start_rows

@@ -1,5 +1,5 @@
 // The lines of a mesh, written into a lent buffer.
-ghost use Rattle.std.specs.Prelude.{◌≡◌, ◌/◌, length};
+ghost use Rattle.std.specs.Prelude.{◌≡◌, ◌*◌, ◌/◌, length};
 ghost use Rattle.std.specs.List.{flat_map};
 ghost use Rattle.lines.specs.Text.{line_text, quad_rows, start_rows, mesh_text};
 ghost use Rattle.tables.specs.Lent.{mesh};
@@ -12,17 +12,27 @@ use tables::lawful::LawfulTables;
 
 impl Writer<'_> {
     // Writes the lines of the quads.
-    fn put_quads(&mut self, level: &LawfulTables<'_>)
-        requires { Room self.old (length (flat_map (line_text 48 49) (quad_rows (length level.now.tables.corners.now / 4) level.now.tables.corners.now level.now.tables.friends.now level.now.tables.marks.now))) }
-        ensures { Wrote self.old (flat_map (line_text 48 49) (quad_rows (length level.now.tables.corners.now / 4) level.now.tables.corners.now level.now.tables.friends.now level.now.tables.marks.now)) self.new }
+    fn put_quads(&mut self, corners: &[u32], friends: &[u32], marks: &[u32])
+        requires corner_count { length corners.now ≡ 4 * (length corners.now / 4) }
+        requires friend_count { length friends.now ≡ 2 * (length corners.now / 4) }
+        requires mark_count { length marks.now ≡ 2 * (length corners.now / 4) }
+        requires room { Room self.old (length (flat_map (line_text 48 49) (quad_rows (length corners.now / 4) corners.now friends.now marks.now))) }
+        ensures { Wrote self.old (flat_map (line_text 48 49) (quad_rows (length corners.now / 4) corners.now friends.now marks.now)) self.new }
     {
-        let tables = level.tables;
-        let rest = tables
-            .friends
-            .chunks_exact(2)
-            .zip(tables.marks.chunks_exact(2));
-        for (c, (f, m)) in tables.corners.chunks_exact(4).zip(rest) {
-            let row = [c[0], c[1], c[2], c[3], f[0], f[1], m[0], m[1]];
+        // by index: over chunks of the three tables, zipped, it proves as well, but writing took a tenth longer
+        for q in 0..corners.len() / 4 {
+            let c = 4 * q;
+            let o = 2 * q;
+            let row = [
+                corners[c],
+                corners[c + 1],
+                corners[c + 2],
+                corners[c + 3],
+                friends[o],
+                friends[o + 1],
+                marks[o],
+                marks[o + 1],
+            ];
             self.put_line(Kind::Quad, &row);
         }
     }
@@ -45,7 +55,7 @@ impl Writer<'_> {
         let tables = level.tables;
         let counts = [tables.quads() as u32, tables.starts.len() as u32];
         self.put_line(Kind::Counts, &counts);
-        self.put_quads(level);
+        self.put_quads(tables.corners, tables.friends, tables.marks);
         self.put_starts(tables.starts);
     }
 }

@@ -1,45 +1,43 @@
-use Rattle.std.proofs.Common.{◌∙◌, inl, inr, arith, rules}
-use Rattle.text.proofs.Sizes.{sizes}
-use Rattle.text.proofs.QuadsLeft.{left_all, left_as, left_room, left_next, left_none}
+use Rattle.std.proofs.Common.{◌≡◌, ℕ, ◌+◌, ◌*◌, ◌/◌, ◌<◌, List, ◌++◌, length, take, sym, ap, ◌∙◌, subst, arith, length-append}
+use Rattle.std.specs.List.{flat_map}
+use Rattle.std.proofs.lemmas.List.{take_all}
+use Rattle.lines.specs.Text.{line_text, quad_rows}
+use Rattle.text.specs.Put.{Wrote}
+use Rattle.text.proofs.LinesOf.{joined_next, joined_part, row, row_at, rows_count}
+use Rattle.text.proofs.Writes.{wrote_none, wrote_more, wrote_room}
 use Rattle.text.proofs.put.Writer.put_quads.Goals as goal
 
-pub loop-c-init : goal.loop-c-init
-loop-c-init c =
-    let t = c.args.level.now.tables in
-    let s = sizes t c.args.level.now.lawful in
-    let l = left_all c.args.self.now _ t.corners.now t.friends.now t.marks.now c.requires s.corners_in_fours s.friends_by_quads s.marks_by_quads in
-    search (rules, l)
+pub loop-q-init : goal.loop-q-init
+loop-q-init c = wrote_none c.args.self.now (omega (arith, c.requires.room))
+
+-- one line more
+next : (k : ℕ) (cs fs ms : List ℕ) (q : ℕ) → q < k → length cs ≡ 4 * k → length fs ≡ 2 * k → length ms ≡ 2 * k → flat_map (line_text 48 49) (take (q + 1) (quad_rows k cs fs ms)) ≡ flat_map (line_text 48 49) (take q (quad_rows k cs fs ms)) ++ line_text 48 49 (row cs fs ms q)
+next k cs fs ms q h lc lf lm =
+    let n = rows_count k cs fs ms in
+    joined_next (line_text 48 49) (quad_rows k cs fs ms) q (omega arith) ∙ ap (λ (r : List ℕ). flat_map (line_text 48 49) (take q (quad_rows k cs fs ms)) ++ line_text 48 49 r) (row_at cs fs ms q k h lc lf lm)
 
 pub put_line-requires : goal.put_line-requires
 put_line-requires c =
-    let i = c.loop-c.invariant in
-    let e = c.in-Some.ensures.steps in
-    let l = left_as _ _ _ _ _ _ _ _ _ e.0.1.0 e.1.0.1.0 e.1.1.1.0 i.left in
-    left_room c.in-Some.c.now c.in-Some.f.now c.in-Some.m.now _ _ _ (e.0.1.1 ∙ i.corner_size) (e.1.0.1.1 ∙ i.friend_size) (e.1.1.1.1 ∙ i.mark_size) c.args.self.now c.loop-c.self _ l c.requires
+    let cs = c.args.corners.now in
+    let fs = c.args.friends.now in
+    let ms = c.args.marks.now in
+    let k = length cs / 4 in
+    let q = c.loop-q.q in
+    let a = ap length (next k cs fs ms q (omega arith) c.requires.corner_count c.requires.friend_count c.requires.mark_count) ∙ length-append (flat_map (line_text 48 49) (take q (quad_rows k cs fs ms))) (line_text 48 49 (row cs fs ms q)) in
+    let b = joined_part (line_text 48 49) (quad_rows k cs fs ms) (q + 1) in
+    wrote_room c.args.self.now c.loop-q.self _ _ c.loop-q.invariant (omega (arith, c.requires.room))
 
-pub loop-c-preserved : goal.loop-c-preserved
-loop-c-preserved c =
-    let i = c.loop-c.invariant in
-    let e = c.in-Some.ensures.steps in
-    let l = left_as _ _ _ _ _ _ _ _ _ e.0.1.0 e.1.0.1.0 e.1.1.1.0 i.left in
-    record {
-      corner_size = e.0.0 ∙ i.corner_size;
-      friend_size = e.1.0.0 ∙ i.friend_size;
-      mark_size = e.1.1.0 ∙ i.mark_size;
-      left = left_next c.in-Some.c.now c.in-Some.f.now c.in-Some.m.now _ _ _ (e.0.1.1 ∙ i.corner_size) (e.1.0.1.1 ∙ i.friend_size) (e.1.1.1.1 ∙ i.mark_size) c.args.self.now c.loop-c.self _ l c.put_line.new.self c.put_line.ensures;
-    }
+pub loop-q-preserved : goal.loop-q-preserved
+loop-q-preserved c =
+    let cs = c.args.corners.now in
+    let P : List ℕ → Type 0 = λ x. Wrote c.args.self.now x c.put_line.new.self in
+    subst P (sym (next (length cs / 4) cs c.args.friends.now c.args.marks.now c.loop-q.q (omega arith) c.requires.corner_count c.requires.friend_count c.requires.mark_count))
+    (wrote_more c.args.self.now c.loop-q.self c.put_line.new.self _ _ c.loop-q.invariant c.put_line.ensures)
 
 pub returns : goal.returns
 returns c =
-    let i = c.loop-c.invariant in
-    let a = i.corner_size in
-    let b = i.friend_size in
-    let d = i.mark_size in
-    left_none c.args.self.now c.loop-c.self _ _ _ _ i.left
-    (elim c.in-None.ensures.steps [
-      | inl p ↦ let h = p.1.1.0 in inl (omega arith)
-      | inr q ↦ elim q.1 [
-        | inl p ↦ let h = p.1.1.0 in inr (inl (omega arith))
-        | inr p ↦ let h = p.1.1.0 in inr (inr (omega arith))
-      ]
-    ])
+    let cs = c.args.corners.now in
+    let rows = quad_rows (length cs / 4) cs c.args.friends.now c.args.marks.now in
+    let n = rows_count (length cs / 4) cs c.args.friends.now c.args.marks.now in
+    let P : List (List ℕ) → Type 0 = λ x. Wrote c.args.self.now (flat_map (line_text 48 49) x) c.loop-q.self in
+    subst P (take_all c.loop-q.q rows (omega arith)) c.loop-q.invariant

@@ -1,12 +1,8 @@
-use Rattle.std.proofs.Common.{◌≡◌, ◌/◌, length}
-use Rattle.std.specs.Slice.Iter.{chunks_exact_rest, chunks_exact_size}
-use Rattle.text.proofs.QuadsLeft.{Left, quads}
+use Rattle.std.proofs.Common.{◌/◌, length, take}
+use Rattle.std.specs.List.{flat_map}
+use Rattle.lines.specs.Text.{line_text, quad_rows}
+use Rattle.text.specs.Put.{Wrote}
 use Rattle.text.proofs.put.Writer.put_quads.Given as goal
 
-abbrev pub invariant-loop-c : goal.invariant-loop-c
-invariant-loop-c l = record {
-  corner_size : chunks_exact_size l.c-iterator.a ≡ 4;
-  friend_size : chunks_exact_size l.c-iterator.b.a ≡ 2;
-  mark_size : chunks_exact_size l.c-iterator.b.b ≡ 2;
-  left : Left l.initial.self l.self (quads (length l.fn.level.tables.corners.now / 4) l.fn.level.tables.corners.now l.fn.level.tables.friends.now l.fn.level.tables.marks.now) (chunks_exact_rest l.c-iterator.a) (chunks_exact_rest l.c-iterator.b.a) (chunks_exact_rest l.c-iterator.b.b);
-}
+abbrev pub invariant-loop-q : goal.invariant-loop-q
+invariant-loop-q l = Wrote l.initial.self (flat_map (line_text 48 49) (take l.q (quad_rows (length l.corners / 4) l.corners l.friends l.marks))) l.self

@@ -46,11 +46,12 @@ pub put_quads-requires : goal.put_quads-requires
 unfolding quads_text
 put_quads-requires c =
     let t = c.args.level.now.tables in
+    let s = sizes t c.args.level.now.lawful in
     let h = ap length (counts t c.quads.result c.quads.ensures) in
     let l = parts_length t in
     let n = length (quads_text t) + length (starts_text t) in
     let r = wrote_room _ _ _ n c.put_line.ensures (omega (arith, c.requires)) in
-    omega arith
+    record { corner_count = s.corners_in_fours; friend_count = s.friends_by_quads; mark_count = s.marks_by_quads; room = omega arith }
 
 pub put_starts-requires : goal.put_starts-requires
 unfolding quads_text starts_text
