@@ -54,6 +54,15 @@ standing_if (declined k p) m = None
 abbrev pub refine_standing : ℕ → ℕ → Mesh → ℕ → Option Mesh
 refine_standing words mark m n = standing_if (load_refusal (made words mark) m) (level m (levels_made words mark m n))
 
+-- any bench that was asked to load m, and to refine it n times unless that was refused: what is left is its levels, or all as it was
+abbrev pub left_by_load : Verdict → State → Mesh → ℕ → State
+left_by_load fine s m n = standing_on s.words s.mark (level m (levels_made s.words s.mark m n))
+left_by_load (declined k p) s m n = s
+
+abbrev pub LoadedAndRefined : ℕ → Mesh → State → State → Verdict → Type 0
+LoadedAndRefined n m entry exit answer =
+    (exit ≡ left_by_load (load_refusal entry m) entry m n) × (answer ≡ and_next (load_refusal entry m) (refining_verdict entry.words entry.mark m n))
+
 -- a refusal in numbers, with the counts of the level that stands, 0 where there is none
 abbrev pub found_at : Verdict → Option Mesh → Found
 found_at fine o = record { number = 0; place = 0; quads = quads_of o; points = points_of o }

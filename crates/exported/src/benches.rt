@@ -5,7 +5,7 @@ ghost use Rattle.chain.specs.Calls.{made};
 ghost use Rattle.lines.specs.Text.{mesh_text};
 ghost use Rattle.mesh.specs.Refusals.{told};
 ghost use Rattle.tables.specs.Lent.{mesh};
-ghost use Rattle.exported.specs.Benches.{RefinedTimes, Wrote, copied, found_at, refine_standing, refine_verdict, write_verdict, written_of};
+ghost use Rattle.exported.specs.Benches.{LoadedAndRefined, RefinedTimes, Wrote, copied, found_at, refine_standing, refine_verdict, write_verdict, written_of};
 
 use crate::{Found, Refusal, Written};
 use bench::bench::Bench;
@@ -43,10 +43,12 @@ fn refine_levels(bench: &mut Bench<'_>, levels: u32) -> Result<(), Fault>
     Ok(())
 }
 
-// Loads an empty bench, and refines what stands so many times or until a refinement is refused.
+// Loads a bench, and refines what stands then so many times or until a refinement is refused.
 pub fn load_and_refine(bench: &mut Bench<'_>, tables: &Tables<'_>, levels: u32) -> Result<(), Fault>
-    ensures { (words mark : ℕ) → state bench.old ≡ made words mark → ((state bench.new).standing ≡ refine_standing words mark (mesh tables.now) levels) × (told result ≡ refine_verdict words mark (mesh tables.now) levels) }
+    ensures call { LoadedAndRefined levels (mesh tables.now) (state bench.old) (state bench.new) (told result) }
+    ensures made { (words mark : ℕ) → state bench.old ≡ made words mark → ((state bench.new).standing ≡ refine_standing words mark (mesh tables.now) levels) × (told result ≡ refine_verdict words mark (mesh tables.now) levels) }
 {
+    // what stood before goes, unless the load is refused
     bench.load(tables)?;
     refine_levels(bench, levels)
 }
