@@ -133,12 +133,16 @@ all_ran s {b} {k} {t} {m} {F} {V} f e o eF eV ek et =
       ran = et ∙ ap (λ n. run_on k (map point (range_with_len 0 n))) eV ∙ ap (λ x. run_on x (map point (range_with_len 0 m.points))) quads ∙ tasks_run s.words s.mark m;
     }
 
--- then finish with the slip of this bench is carried out
+-- then finish with the slip of this bench is not refused
+pub not_refused : (s t : State) (m : Mesh) (slip n p : ℕ) → AllRan s t m → slip ≡ s.mark → declined n p ≡ refusal t (finish slip) → ⊥
+not_refused s t m slip n p a e r =
+    let f : declined n p ≡ fine = r ∙ ap (λ x. refusal t (finish x)) e ∙ ap (λ x. refusal x (finish s.mark)) a.ran ∙ finish_fine s.words s.mark m in
+    cc
+
+-- so it is carried out
 pub finishes : {s t : State} {m : Mesh} {slip : ℕ} (r : Result Unit Declined) → AllRan s t m → slip ≡ s.mark → told_slip r ≡ refusal t (finish slip) → IsOk r
 finishes (Ok x) a e r = refl
-finishes {s} {t} {m} (Err d) a e r =
-    let f : declined (number_of d.fault) (place_of d.fault) ≡ fine = r ∙ ap (λ x. refusal t (finish x)) e ∙ ap (λ x. refusal x (finish s.mark)) a.ran ∙ finish_fine s.words s.mark m in
-    cc
+finishes {s} {t} {m} {slip} (Err d) a e r = absurd (not_refused s t m slip (number_of d.fault) (place_of d.fault) a e r)
 
 -- and leaves m refined
 pub refined : {s t exit : State} {m : Mesh} {slip : ℕ} → fine ≡ refusal s begin → AllRan s t m → slip ≡ s.mark → exit ≡ next t (finish slip) → RefinedOnce s exit fine

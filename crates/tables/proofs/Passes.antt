@@ -1,12 +1,12 @@
 -- The verdict of a test of each place, and what such a test that found nothing tells.
 use Rattle.std.proofs.Common.{◌≡◌, ℕ, ◌*◌, ◌<◌, Bool, true, false, not, sym, ◌∙◌, inl, inr, arith}
-use Rattle.std.proofs.lemmas.Bool.{cases_lt, not-true, not-false}
-use Rattle.mesh.specs.Causes.{each, friend_ok, mark_ok, start_ok}
+use Rattle.std.proofs.lemmas.Bool.{cases_Bool, cases_lt, not-true, not-false}
+use Rattle.mesh.specs.Causes.{once, each, shape_ok, quads_ok, points_ok, friend_ok, mark_ok, start_ok}
 use Rattle.mesh.specs.Count.{least}
 use Rattle.mesh.specs.Mesh.{Mesh}
 use Rattle.mesh.specs.Refusals.{Verdict, fine, declined}
-use Rattle.refinement.proofs.Causes.{each_on, each_fault}
-use Rattle.refinement.proofs.Tests.{friend_tells, mark_tells, start_tells}
+use Rattle.refinement.proofs.Causes.{once_fault, each_on, each_fault}
+use Rattle.refinement.proofs.Tests.{shape_tells, quads_tell, points_tell, friend_tells, mark_tells, start_tells}
 use Rattle.refinement.proofs.Totals.{least_fails, least_passes}
 use Rattle.tables.specs.Passed.{Sized, Worded, Started}
 
@@ -32,6 +32,9 @@ pub nowhere : (k : ℕ) (ok : ℕ → Bool) (n : ℕ) → ((i : ℕ) → i < n �
 nowhere k ok n t rest = sym (each_on k ok n rest t)
 
 -- what a test that found nothing tells
+pub once_passed : (k : ℕ) (ok : Bool) → fine ≡ once k ok fine → ok ≡ true
+once_passed k ok e = elim (cases_Bool ok) [ inl t ↦ t | inr f ↦ absurd (not_fine k 0 (e ∙ once_fault k ok fine f)) ]
+
 pub each_passed : (k : ℕ) (ok : ℕ → Bool) (n : ℕ) → fine ≡ each k ok n fine → (i : ℕ) → i < n → ok i ≡ true
 each_passed k ok n e = elim (found ok n) [
   | none t ↦ t
@@ -39,13 +42,19 @@ each_passed k ok n e = elim (found ok n) [
 ]
 
 -- what the first tests that passed are good for
-pub worded : (m : Mesh) → Sized m → ((rest : Verdict) → rest ≡ each 5 (friend_ok m) (2 * m.quads) rest) →
-    ((rest : Verdict) → rest ≡ each 6 (mark_ok m) (2 * m.quads) rest) → Worded m
-worded m s e5 e6 = record {
-  sized = s;
-  friends_are_edges = λ o l. (friend_tells m o).holds (each_passed 5 (friend_ok m) _ (e5 fine) o l);
-  marks_are_words = λ o l. (mark_tells m o).holds (each_passed 6 (mark_ok m) _ (e6 fine) o l);
+pub sized : (m : Mesh) → fine ≡ once 1 (shape_ok m) fine → fine ≡ once 2 (quads_ok m) fine → fine ≡ once 3 (points_ok m) fine → Sized m
+sized m e1 e2 e3 = record {
+  counted = (shape_tells m).holds (once_passed 1 _ e1);
+  quads_few = ((quads_tell m).holds (once_passed 2 _ e2)).1;
+  points_few = ((points_tell m).holds (once_passed 3 _ e3)).1;
 }
 
-pub started : (m : Mesh) → Worded m → ((rest : Verdict) → rest ≡ each 8 (start_ok m) m.points rest) → Started m
-started m w e8 = record { worded = w; starts_are_corners = λ v l. ((start_tells m v).holds (each_passed 8 (start_ok m) _ (e8 fine) v l)).0 }
+pub worded : (m : Mesh) → Sized m → fine ≡ each 5 (friend_ok m) (2 * m.quads) fine → fine ≡ each 6 (mark_ok m) (2 * m.quads) fine → Worded m
+worded m s e5 e6 = record {
+  sized = s;
+  friends_are_edges = λ o l. (friend_tells m o).holds (each_passed 5 (friend_ok m) _ e5 o l);
+  marks_are_words = λ o l. (mark_tells m o).holds (each_passed 6 (mark_ok m) _ e6 o l);
+}
+
+pub started : (m : Mesh) → Worded m → fine ≡ each 8 (start_ok m) m.points fine → Started m
+started m w e8 = record { worded = w; starts_are_corners = λ v l. ((start_tells m v).holds (each_passed 8 (start_ok m) _ e8 v l)).0 }
