@@ -68,6 +68,13 @@ fn read_words<'a>(s: &'a [u8], out: &mut [u32]) -> Option<&'a [u8]>
 pub(crate) fn read_line<'a>(s: &'a [u8], kind: Kind, out: &mut [u32]) -> Option<&'a [u8]>
     ensures { MatchOption result (line (first_digit kind) (second_digit kind) (length out.old) s.now ≡ None) (λ rest. (line (first_digit kind) (second_digit kind) (length out.old) s.now ≡ Some (out.new, rest.now)) × AllByRecursion WordSized out.new) }
 {
-    let words = s.strip_prefix(&kind.digits())?;
+    // by a slice pattern, since a line is two digits and the rest
+    let [first, second, words @ ..] = s else {
+        return None;
+    };
+    let [a, b] = kind.digits();
+    if *first != a || *second != b {
+        return None;
+    }
     read_words(words, out)?.strip_prefix(b"\n")
 }

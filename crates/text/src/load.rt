@@ -72,5 +72,6 @@ pub fn load_text(
     ensures whose { Whose (reading text.now (lent_room lent.old)) result }
 {
     let counts = read(text, lent).map_err(TextFault::Unread)?;
-    load_front(bench, counts, lent).map_err(TextFault::from)
+    load_front(bench, counts, lent)?;
+    Ok(())
 }
